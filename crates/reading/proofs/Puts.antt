@@ -1,0 +1,53 @@
+-- Entries put into a list from a place on: where there is room, one at a time, and where there is none.
+use mathlib.Core.Bool.{true}
+use mathlib.Core.List.{List, [], _∷_, _++_}
+use mathlib.Core.Path.{_≡_, refl, sym, ap, _∙_}
+use native.Mathlib.Numerals.{add-one}
+use native.Mathlib.Omega.{arith}
+use Prim.Native.Nat.{ℕ, suc, min, _+_, _-_, _<_, _≤_, _^_}
+use lib.Dec.{leb}
+use lib.ListN.{length, getD, set, take, drop}
+use lib.Seq.{paste}
+use Rattle.std.proofs.shelf.Edits.{length-paste, paste-all, paste-more}
+use Rattle.std.proofs.shelf.Lists.{set-split}
+use Rattle.std.proofs.shelf.Tests.{cond-true, cond-false, le-leb, lt-leb}
+use Rattle.std.specs.declared.result.Result.the-variants.{Ok, Err}
+use Rattle.reading.specs.declared.refusals.Refusal.{Refusal}
+use Rattle.reading.specs.declared.refusals.Refusal.the-variants.{TooLittleRoom}
+use Rattle.reading.specs.Lists.{fitted, grown, put-from}
+
+pub put-fits : {X : Type 0} (n : ℕ) (xs out : List X) → n + length xs ≤ length out → put-from n xs out ≡ take n out ++ (xs ++ drop (n + length xs) out)
+put-fits n xs out h = cond-true (leb (n + length xs) (length out)) _ _ (le-leb _ _ h)
+
+pub put-over : {X : Type 0} (n : ℕ) (xs out : List X) → length out < n + length xs → put-from n xs out ≡ out
+put-over n xs out h = cond-false (leb (n + length xs) (length out)) _ _ (lt-leb _ _ h)
+
+-- one entry written in its place
+pub put-one : {X : Type 0} (out : List X) (i : ℕ) (x : X) → i < length out → set out i x ≡ put-from i (x ∷ []) out
+put-one out i x h = set-split out i x h ∙ ap (λ k. take i out ++ x ∷ drop k out) (sym (add-one i)) ∙ sym (put-fits i (x ∷ []) out (omega arith))
+
+-- all entries copied one after another
+pub put-all : {X : Type 0} (out : List X) (n : ℕ) (xs : List X) (m : ℕ) → n + length xs ≤ length out → m ≡ length xs → paste out n xs m ≡ put-from n xs out
+put-all out n xs m h e = paste-all out n xs m e ∙ ap (λ k. take n out ++ (xs ++ drop (n + k) out)) e ∙ sym (put-fits n xs out h)
+
+pub grown-fits : (count n room : ℕ) → count + n ≤ room → Ok (count + n) ≡ grown count n room
+grown-fits count n room h = sym (cond-true (leb (count + n) room) _ _ (le-leb _ _ h))
+
+pub grown-over : (count n room m : ℕ) → room < count + n → m ≡ min (count + n) (2 ^ 64 - 1) → Err (TooLittleRoom m) ≡ grown count n room
+grown-over count n room m h e = ap (λ k. Err (TooLittleRoom k)) e ∙ sym (cond-false (leb (count + n) room) _ _ (lt-leb _ _ h))
+
+pub fitted-fits : (n room : ℕ) → n ≤ room → Ok n ≡ fitted n room
+fitted-fits n room h = sym (cond-true (leb n room) _ _ (le-leb _ _ h))
+
+pub fitted-over : (n room : ℕ) → room < n → Err (TooLittleRoom n) ≡ fitted n room
+fitted-over n room h = sym (cond-false (leb n room) _ _ (lt-leb _ _ h))
+
+module _ {X : Type 0} (out : List X) (n : ℕ) (xs : List X) (room : n + length xs ≤ length out) (cur : List X) (i : ℕ) (so-far : cur ≡ paste out n xs i) where
+  -- a list that is copied into stays as long as it is
+  pub copied-length : i ≤ length xs → length cur ≡ length out
+  copied-length h = ap length so-far ∙ length-paste out n xs i (omega arith) h
+
+  -- one entry more copied
+  pub copied-more : (x : X) → i < length xs → x ≡ getD xs i x → set cur (n + i) x ≡ paste out n xs (i + 1)
+  copied-more x h e =
+      ap (λ ys. set ys (n + i) x) so-far ∙ ap (λ y. set (paste out n xs i) (n + i) y) e ∙ paste-more out n xs i x (omega arith) h

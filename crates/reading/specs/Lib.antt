@@ -1,0 +1,4 @@
+pub mod Results
+pub mod Refusals
+pub mod Scale
+pub mod Lists

@@ -1,0 +1,13 @@
+// A list over a caller's slice, which takes entries in order until the slice is full.
+ghost use denote.Ref.{now};
+ghost use Prim.Native.Nat.{_≤_};
+ghost use lib.ListN.{length};
+
+mod fills;
+
+// The first `count` slots are the list; the rest still hold what the caller left there.
+pub struct Bounded<'a, T> {
+    slots: &'a mut [T],
+    count: usize,
+    ghost within: { count ≤ length (now slots) },
+}
