@@ -8,9 +8,9 @@ use Prim.Native.Nat.{ℕ, suc, min, _+_, _-_, _<_, _≤_, _^_}
 use lib.Dec.{leb}
 use lib.ListN.{length, getD, set, take, drop}
 use lib.Seq.{paste}
-use Rattle.std.proofs.shelf.Edits.{length-paste, paste-all, paste-more}
-use Rattle.std.proofs.shelf.Lists.{set-split}
-use Rattle.std.proofs.shelf.Tests.{cond-true, cond-false, le-leb, lt-leb}
+use Rattle.std.proofs.shelf.Edits.{length-paste, paste-all, paste-more, paste-paste}
+use Rattle.std.proofs.shelf.Lists.{set-split, length-append, length-take, length-drop}
+use Rattle.std.proofs.shelf.Tests.{cond-true, cond-false, cond-both, leb-true, le-leb, lt-leb}
 use Rattle.std.specs.declared.result.Result.the-variants.{Ok, Err}
 use Rattle.reading.specs.declared.refusals.Refusal.{Refusal}
 use Rattle.reading.specs.declared.refusals.Refusal.the-variants.{TooLittleRoom}
@@ -51,3 +51,31 @@ module _ {X : Type 0} (out : List X) (n : ℕ) (xs : List X) (room : n + length 
   pub copied-more : (x : X) → i < length xs → x ≡ getD xs i x → set cur (n + i) x ≡ paste out n xs (i + 1)
   copied-more x h e =
       ap (λ ys. set ys (n + i) x) so-far ∙ ap (λ y. set (paste out n xs i) (n + i) y) e ∙ paste-more out n xs i x (omega arith) h
+
+-- a list that is put into stays as long as it is
+pub length-put : {X : Type 0} (n : ℕ) (xs out : List X) → length (put-from n xs out) ≡ length out
+length-put n xs out =
+    cond-both (leb (n + length xs) (length out)) _ _ (λ ys. length ys ≡ length out)
+    (λ e. let h = leb-true (n + length xs) (length out) e in simp (length-append, length-take, length-drop) (omega arith))
+    (λ e. refl)
+
+-- entries put behind others are put with them
+pub put-then :
+    {X : Type 0} (out : List X) (n : ℕ) (xs ys : List X) (m : ℕ) → m ≡ n + length xs → m + length ys ≤ length out
+    → put-from m ys (put-from n xs out) ≡ put-from n (xs ++ ys) out
+put-then out n xs ys m e h =
+    let q = length-append xs ys in
+    let first : put-from n xs out ≡ paste out n xs (length xs) = sym (put-all out n xs (length xs) (omega arith) refl) in
+    let room : m + length ys ≤ length (put-from n xs out) = omega (arith, length-put n xs out) in
+    sym (put-all (put-from n xs out) m ys (length ys) room refl)
+    ∙ ap (λ zs. paste zs m ys (length ys)) first
+    ∙ ap (λ k. paste (paste out n xs (length xs)) k ys (length ys)) e
+    ∙ paste-paste out n xs ys (length xs) (length ys) refl refl (omega arith)
+    ∙ put-all out n (xs ++ ys) (length xs + length ys) (omega arith) (sym q)
+
+-- two entries written in their places
+pub put-two : {X : Type 0} (out : List X) (i : ℕ) (x y : X) → i + 2 ≤ length out → set (set out i x) (i + 1) y ≡ put-from i (x ∷ y ∷ []) out
+put-two out i x y h =
+    ap (λ zs. set zs (i + 1) y) (put-one out i x (omega arith))
+    ∙ put-one (put-from i (x ∷ []) out) (i + 1) y (omega (arith, length-put i (x ∷ []) out))
+    ∙ put-then out i (x ∷ []) (y ∷ []) (i + 1) refl (omega arith)

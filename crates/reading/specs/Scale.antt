@@ -29,10 +29,9 @@ is-weight w = leb 1 w && leb w 1000
 abbrev pub on-scale : Reading → Bool
 on-scale r = is-level (r .value) && is-weight (r .weight)
 
--- the reading of a value and a weight that is to have a place, or what is wrong with it: the value first
-abbrev pub admitted : ℤ → ℕ → ℕ → Result Reading Refusal
-admitted v w p =
-    cond (is-level v) (cond (is-weight w) (Ok (record { value = v; weight = w })) (Err (WeightOffScale p))) (Err (ValueOffScale p))
+-- a reading that is to have place p, or what is wrong with it: the value first
+abbrev pub admitted : Reading → ℕ → Result Reading Refusal
+admitted r p = cond (is-level (r .value)) (cond (is-weight (r .weight)) (Ok r) (Err (WeightOffScale p))) (Err (ValueOffScale p))
 
 -- every reading of a list is on the scale
 abbrev pub Scaled : List Reading → Type 0

@@ -20,17 +20,17 @@ pub struct Reading {
 }
 
 impl Reading {
-    // The reading of a value and a weight that is to have this place; refused where either is off the scale.
-    pub fn admit(value: i32, weight: u32, place: usize) -> Result<Reading, Refusal>
-        ensures { λ r. ⌜ r ≡ admitted value weight place ⌝ }
+    // This reading, which is to have that place; refused where its value or its weight is off the scale.
+    pub fn admit(self, place: usize) -> Result<Reading, Refusal>
+        ensures { λ r. ⌜ r ≡ admitted self place ⌝ }
     {
-        if value < LOWEST || value > HIGHEST {
+        if self.value < LOWEST || self.value > HIGHEST {
             return Err(Refusal::ValueOffScale { place });
         }
-        if weight < 1 || weight > HEAVIEST {
+        if self.weight < 1 || self.weight > HEAVIEST {
             return Err(Refusal::WeightOffScale { place });
         }
-        Ok(Reading { value, weight })
+        Ok(self)
     }
 
     pub fn is_on_scale(self) -> bool

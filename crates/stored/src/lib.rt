@@ -1,0 +1,4 @@
+// The stored form of a list of readings: two sizes, then the values, then the weights, two bytes each.
+mod columns;
+mod reads;
+mod words;
