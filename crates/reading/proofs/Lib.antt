@@ -1,3 +1,4 @@
 pub mod Places
 pub mod Fronts
 pub mod Puts
+pub mod Verdicts

@@ -2,6 +2,7 @@
 use mathlib.Core.Bool.{true}
 use mathlib.Core.List.{List, [], _∷_, _++_}
 use mathlib.Core.Path.{_≡_, refl, sym, ap, _∙_}
+use native.Mathlib.Nat.{add-zero}
 use native.Mathlib.Numerals.{add-one}
 use native.Mathlib.Omega.{arith}
 use Prim.Native.Nat.{ℕ, suc, min, _+_, _-_, _<_, _≤_, _^_}
@@ -9,12 +10,13 @@ use lib.Dec.{leb}
 use lib.ListN.{length, getD, set, take, drop}
 use lib.Seq.{paste}
 use Rattle.std.proofs.shelf.Edits.{length-paste, paste-all, paste-more, paste-paste}
-use Rattle.std.proofs.shelf.Lists.{set-split, length-append, length-take, length-drop}
+use Rattle.std.proofs.shelf.Lists.{set-split, length-append, length-take, length-drop, take-append-drop, take-at}
 use Rattle.std.proofs.shelf.Tests.{cond-true, cond-false, cond-both, leb-true, le-leb, lt-leb}
+use Rattle.std.specs.declared.result.Result.{Result}
 use Rattle.std.specs.declared.result.Result.the-variants.{Ok, Err}
 use Rattle.reading.specs.declared.refusals.Refusal.{Refusal}
 use Rattle.reading.specs.declared.refusals.Refusal.the-variants.{TooLittleRoom}
-use Rattle.reading.specs.Lists.{fitted, grown, put-from}
+use Rattle.reading.specs.Lists.{delivered, filled, fitted, grown, put-from}
 
 pub put-fits : {X : Type 0} (n : ℕ) (xs out : List X) → n + length xs ≤ length out → put-from n xs out ≡ take n out ++ (xs ++ drop (n + length xs) out)
 put-fits n xs out h = cond-true (leb (n + length xs) (length out)) _ _ (le-leb _ _ h)
@@ -79,3 +81,31 @@ put-two out i x y h =
     ap (λ zs. set zs (i + 1) y) (put-one out i x (omega arith))
     ∙ put-one (put-from i (x ∷ []) out) (i + 1) y (omega (arith, length-put i (x ∷ []) out))
     ∙ put-then out i (x ∷ []) (y ∷ []) (i + 1) refl (omega arith)
+
+module _ {X : Type 0} (given : Result (List X) Refusal) (xs : List X) (granted : given ≡ Ok xs) (n : ℕ) (counted : n ≡ length xs) (out : List X) where
+  -- what was granted and fits is counted and put to the front
+  pub delivered-fits : n ≤ length out → Ok n ≡ delivered given out
+  delivered-fits h =
+      fitted-fits n (length out) h ∙ ap (λ k. fitted k (length out)) counted ∙ sym (ap (λ d. delivered d out) granted)
+
+  pub filled-is : put-from 0 xs out ≡ filled given out
+  filled-is = sym (ap (λ d. filled d out) granted)
+
+  -- what was granted and does not fit is declined and changes nothing
+  pub delivered-over : length out < n → Err (TooLittleRoom n) ≡ delivered given out
+  delivered-over h =
+      fitted-over n (length out) h ∙ ap (λ k. fitted k (length out)) counted ∙ sym (ap (λ d. delivered d out) granted)
+
+  pub filled-over : length out < n → out ≡ filled given out
+  filled-over h = sym (put-over 0 xs out (omega arith)) ∙ filled-is
+
+-- what was put to the front is found there
+pub take-put : {X : Type 0} (xs out : List X) (n : ℕ) → n ≡ length xs → n ≤ length out → take n (put-from 0 xs out) ≡ xs
+take-put xs out n e h = ap (take n) (put-fits 0 xs out (omega arith)) ∙ take-at xs (drop (0 + length xs) out) n (sym e)
+
+-- no entries put anywhere
+pub put-none : {X : Type 0} (n : ℕ) (out : List X) → out ≡ put-from n [] out
+put-none n out =
+    cond-both (leb (n + 0) (length out)) _ _ (λ ys. out ≡ ys)
+    (λ e. sym (ap (λ k. take n out ++ drop k out) (add-zero n) ∙ take-append-drop n out))
+    (λ e. refl)

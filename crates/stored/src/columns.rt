@@ -6,13 +6,13 @@ ghost use Rattle.stored.specs.Forms.{cell};
 use reading::Reading;
 
 #[derive(Clone, Copy)]
-pub enum Column {
+pub(crate) enum Column {
     Values,
     Weights,
 }
 
 impl Column {
-    pub fn cell(self, row: Reading) -> u16
+    pub(crate) fn cell(self, row: Reading) -> u16
         requires { ⌜ on-scale row ≡ true ⌝ }
         ensures { λ r. ⌜ r ≡ cell self row ⌝ }
     {

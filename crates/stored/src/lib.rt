@@ -2,3 +2,8 @@
 mod columns;
 mod reads;
 mod words;
+mod writes;
+
+pub use reads::check;
+pub use reads::read;
+pub use writes::write;

@@ -6,7 +6,7 @@ ghost use Rattle.reading.specs.Lists.{put-from};
 ghost use Rattle.stored.specs.Words.{split, word-at};
 
 // The number at an index, where the bytes are taken two by two.
-pub fn word_at(bytes: &[u8], i: usize) -> u16
+pub(crate) fn word_at(bytes: &[u8], i: usize) -> u16
     requires { ⌜ 2 * i + 1 < length (now bytes) ⌝ }
     ensures { λ r. ⌜ r ≡ word-at (now (bytes .entry)) i ⌝ }
 {
@@ -14,7 +14,7 @@ pub fn word_at(bytes: &[u8], i: usize) -> u16
 }
 
 // Writes a number at an index, likewise.
-pub fn put_word(bytes: &mut [u8], i: usize, number: u16)
+pub(crate) fn put_word(bytes: &mut [u8], i: usize, number: u16)
     requires { ⌜ 2 * i + 2 ≤ length (now bytes) ⌝ }
     ensures { λ _. ⌜ now (bytes .exit) ≡ put-from (2 * i) (split number) (now (bytes .entry)) ⌝ }
 {

@@ -18,7 +18,7 @@ returns-in-Break-admit c =
     let within : c .loop-i .i < length (rows (c .args .count) (c .args .rest .now)) = omega arith in
     let e = c .row-at .ensures (c .row-at .result) in
     let all = refused-here _ _ (c .row-at .result) within (c .loop-i .inv) _ (c .in-Break-admit .ensures tt ∙ ap (λ r. admitted r (c .loop-i .i + 1)) e) in
-    rw (p .1, p .2) (record { value = rw all; all = tt })
+    rw (p .1, p .2) (rw all)
 
 pub loop-i-again : need.loop-i-again
 loop-i-again c =
@@ -31,4 +31,4 @@ pub returns : need.returns
 returns c =
     let long = length-rows (c .args .count) (c .args .rest .now) (c .pre) in
     let all = admitted-all (rows (c .args .count) (c .args .rest .now)) (c .loop-i .i) (omega arith) (c .loop-i .inv) in
-    record { value = rw all; all = all }
+    rw all
