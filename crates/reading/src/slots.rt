@@ -6,6 +6,7 @@ ghost use lib.ListN.{length};
 mod fills;
 
 // The first `count` slots are the list; the rest still hold what the caller left there.
+#[derive(Drop)]
 pub struct Bounded<'a, T> {
     slots: &'a mut [T],
     count: usize,

@@ -44,10 +44,10 @@ whole-laid rs n out one two three four counted room a b c d =
     let vl = length-column Values rs in
     let wl = length-column Weights rs in
     let two-is : two ≡ put-from 0 (split n ++ split n) out =
-        b ∙ ap (put-from 2 (split n)) a ∙ put-then out 0 (split n) (split n) 2 refl (omega arith) in
+    b ∙ ap (put-from 2 (split n)) a ∙ put-then out 0 (split n) (split n) 2 refl (omega arith) in
     let three-is : three ≡ put-from 0 ((split n ++ split n) ++ values) out =
-        c ∙ ap (put-from 4 values) two-is ∙ put-then out 0 (split n ++ split n) values 4 refl (omega arith) in
+    c ∙ ap (put-from 4 values) two-is ∙ put-then out 0 (split n ++ split n) values 4 refl (omega arith) in
     let four-is : four ≡ put-from 0 (((split n ++ split n) ++ values) ++ weights) out =
-        d ∙ ap (put-from (2 * (2 + n)) weights) three-is
-        ∙ put-then out 0 ((split n ++ split n) ++ values) weights (2 * (2 + n)) (omega (arith, length-append (split n ++ split n) values)) (omega arith) in
+    d ∙ ap (put-from (2 * (2 + n)) weights) three-is
+    ∙ put-then out 0 ((split n ++ split n) ++ values) weights (2 * (2 + n)) (omega (arith, length-append (split n ++ split n) values)) (omega arith) in
     four-is ∙ ap (λ k. put-from 0 (split k ++ (split k ++ (values ++ weights))) out) counted

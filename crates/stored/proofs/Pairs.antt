@@ -93,9 +93,10 @@ words-below (a ∷ b ∷ bs) all (suc k) = words-below bs (λ j. all (suc (suc j
 
 pub bytes-take : (n : ℕ) (bs : List ℕ) → Bytes bs → Bytes (take n bs)
 bytes-take n bs all k =
-    elim (cases-lt k n)
-    [ inl h ↦ rw getD-take (all k)
-    | inr h ↦ rw (getD-past (take n bs) k 0 (omega (arith, length-take n bs))) (omega arith) ]
+    elim (cases-lt k n) [
+      | inl h ↦ rw getD-take (all k)
+      | inr h ↦ rw (getD-past (take n bs) k 0 (omega (arith, length-take n bs))) (omega arith)
+    ]
 
 pub bytes-drop : (n : ℕ) (bs : List ℕ) → Bytes bs → Bytes (drop n bs)
 bytes-drop n bs all k = rw getD-drop (all (n + k))

@@ -51,9 +51,10 @@ module _ (n : ℕ) (rest : List ℕ) (long : length rest ≡ 4 * n) where
   pub rows-at :
       (i : ℕ) (d : Reading) → i < n
       → getD (rows n rest) i d
-      ≡ record
-      { value = from-complement (word-at rest i);
-        weight = word-at rest (n + i) }
+      ≡ record {
+        value = from-complement (word-at rest i);
+        weight = word-at rest (n + i);
+      }
   rows-at i d h =
       let low : 2 * i < 2 * n = omega arith in
       let high : 2 * i + 1 < 2 * n = omega arith in
@@ -66,10 +67,10 @@ module _ (n : ℕ) (rest : List ℕ) (long : length rest ≡ 4 * n) where
       let g : 2 * n + (2 * i + 1) ≡ 2 * (n + i) + 1 = omega arith in
       let f : getD (drop (2 * n) rest) (2 * i + 1) 0 ≡ getD rest (2 * (n + i) + 1) 0 = getD-drop (2 * n) rest (2 * i + 1) 0 ∙ ap (λ k. getD rest k 0) g in
       let v : getD (map from-complement (words (take (2 * n) rest))) i (from-complement 0) ≡ from-complement (word-at rest i) =
-          getD-map from-complement (words (take (2 * n) rest)) i 0 (from-complement 0) (omega (arith, length-words (take (2 * n) rest) n fl))
-          ∙ ap from-complement (words-at (take (2 * n) rest) n i 0 fl h ∙ cc) in
+      getD-map from-complement (words (take (2 * n) rest)) i 0 (from-complement 0) (omega (arith, length-words (take (2 * n) rest) n fl))
+      ∙ ap from-complement (words-at (take (2 * n) rest) n i 0 fl h ∙ cc) in
       let w : getD (words (drop (2 * n) rest)) i 0 ≡ word-at rest (n + i) =
-          words-at (drop (2 * n) rest) n i 0 bl h ∙ cc in
+      words-at (drop (2 * n) rest) n i 0 bl h ∙ cc in
       paired-at (map from-complement (words (take (2 * n) rest))) (words (drop (2 * n) rest)) i d (from-complement 0) 0 (omega (arith, values-long)) (omega (arith, weights-long))
       ∙ cc
 

@@ -109,7 +109,7 @@ reads-back rs all few =
     let rest = column-bytes Values rs ++ column-bytes Weights rs in
     let n = word-split (length rs) (omega arith) in
     let long : length rest ≡ 4 * length rs =
-        omega (arith, length-append (column-bytes Values rs) (column-bytes Weights rs), length-column Values rs, length-column Weights rs) in
+    omega (arith, length-append (column-bytes Values rs) (column-bytes Weights rs), length-column Values rs, length-column Weights rs) in
     ap (λ k. sized k k rest) n ∙ sized-is (length rs) (length rs) rest refl few long ∙ ap (all-admitted 1) (rows-back rs all) ∙ all-admits 1 rs all
 
 pub length-encoded : (rs : List Reading) → length (encoded rs) ≡ 4 + 4 * length rs
@@ -141,10 +141,10 @@ columns-exact n rest long all =
     let bl = back-long n rest long in
     let e : length (words front) ≡ length (words back) = length-words front n fl ∙ sym (length-words back n bl) in
     let vs : column-bytes Values (rows n rest) ≡ front =
-        values-of-paired (words front) (words back) e (words-below front (bytes-take (2 * n) rest all)) ∙ split-words front n fl (bytes-take (2 * n) rest all) in
+    values-of-paired (words front) (words back) e (words-below front (bytes-take (2 * n) rest all)) ∙ split-words front n fl (bytes-take (2 * n) rest all) in
     let ws : column-bytes Weights (rows n rest) ≡ back =
-        weights-of-paired (map from-complement (words front)) (words back) (length-map (words front) from-complement ∙ e)
-        ∙ split-words back n bl (bytes-drop (2 * n) rest all) in
+    weights-of-paired (map from-complement (words front)) (words back) (length-map (words front) from-complement ∙ e)
+    ∙ split-words back n bl (bytes-drop (2 * n) rest all) in
     ap (λ xs. xs ++ column-bytes Weights (rows n rest)) vs ∙ ap (λ xs. front ++ xs) ws ∙ take-append-drop (2 * n) rest
 
 -- bytes that read are those that writing gives

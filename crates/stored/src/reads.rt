@@ -54,7 +54,9 @@ pub fn check(bytes: &[u8]) -> Result<usize, Refusal>
     ensures exact { λ _. ⌜ ((rs : List Reading) → decoded (now (bytes .entry)) ≡ Ok rs → encoded rs ≡ now (bytes .entry)) ⌝ }
 {
     let [a, b, c, d, rest @ ..] = bytes else {
-        return Err(Refusal::WrongLength { length: bytes.len() });
+        return Err(Refusal::WrongLength {
+            length: bytes.len(),
+        });
     };
     let values = u16::from_le_bytes([*a, *b]) as usize;
     let weights = u16::from_le_bytes([*c, *d]) as usize;
@@ -65,7 +67,9 @@ pub fn check(bytes: &[u8]) -> Result<usize, Refusal>
         return Err(Refusal::TooMany { size: values });
     }
     if bytes.len() != 4 + 4 * values {
-        return Err(Refusal::WrongLength { length: bytes.len() });
+        return Err(Refusal::WrongLength {
+            length: bytes.len(),
+        });
     }
     check_rows(rest, values)
 }

@@ -21,8 +21,9 @@ returns c =
     let is = decoded-is bs n (c .from-le-bytes-values .ensures) second (c .if-values-gt-LIMIT .left) long in
     let all : Bytes bs = λ k. c .typed .bytes k .fits in
     let r : c .check-rows .result ≡ then (decoded bs) (λ _. Ok n) =
-        c .check-rows .ensures ∙ ap (λ xs. then (all-admitted 1 (rows n xs)) (λ _. Ok n)) rest ∙ ap (λ d. then d (λ _. Ok n)) (sym is) in
-    record
-    { value = r ∙ counted bs n (c .from-le-bytes-values .ensures) second (c .if-values-gt-LIMIT .left) long (decoded bs) refl;
+    c .check-rows .ensures ∙ ap (λ xs. then (all-admitted 1 (rows n xs)) (λ _. Ok n)) rest ∙ ap (λ d. then d (λ _. Ok n)) (sym is) in
+    record {
+      value = r ∙ counted bs n (c .from-le-bytes-values .ensures) second (c .if-values-gt-LIMIT .left) long (decoded bs) refl;
       rows = subst (λ q. made q (λ m. (decoded bs ≡ Ok (rows m (drop 4 bs))) × (length bs ≡ 4 + 4 * m))) (sym r) (granted-rows bs n (c .from-le-bytes-values .ensures) second (c .if-values-gt-LIMIT .left) long (decoded bs) refl);
-      exact = decoded-exact bs n (c .from-le-bytes-values .ensures) second (c .if-values-gt-LIMIT .left) long all }
+      exact = decoded-exact bs n (c .from-le-bytes-values .ensures) second (c .if-values-gt-LIMIT .left) long all;
+    }

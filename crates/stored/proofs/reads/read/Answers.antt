@@ -24,10 +24,11 @@ returns-then-count-into c =
     let granted = c .in-Continue-count .ensures tt .rows in
     let long : length (drop 4 bs) ≡ 4 * n = simp length-drop (omega (arith, granted .1)) in
     let counted = sym (length-rows n (drop 4 bs) long) in
-    record
-    { value = delivered-over (decoded bs) (rows n (drop 4 bs)) (granted .0) n counted (c .args .into .now) (c .if-count-into .taken);
+    record {
+      value = delivered-over (decoded bs) (rows n (drop 4 bs)) (granted .0) n counted (c .args .into .now) (c .if-count-into .taken);
       after = filled-over (decoded bs) (rows n (drop 4 bs)) (granted .0) n counted (c .args .into .now) (c .if-count-into .taken);
-      exact = tt }
+      exact = tt;
+    }
 
 pub returns : need.returns
 returns c =
@@ -37,10 +38,11 @@ returns c =
     let long : length (drop 4 bs) ≡ 4 * n = simp length-drop (omega (arith, granted .1)) in
     let counted = sym (length-rows n (drop 4 bs) long) in
     let after : c .fill-rows .last .into ≡ put-from 0 (rows n (drop 4 bs)) (c .args .into .now) =
-        c .fill-rows .ensures ∙ ap (λ xs. put-from 0 (rows n xs) (c .args .into .now)) (take-rest bs 4) in
-    record
-    { value = delivered-fits (decoded bs) (rows n (drop 4 bs)) (granted .0) n counted (c .args .into .now) (c .if-count-into .left);
+    c .fill-rows .ensures ∙ ap (λ xs. put-from 0 (rows n xs) (c .args .into .now)) (take-rest bs 4) in
+    record {
+      value = delivered-fits (decoded bs) (rows n (drop 4 bs)) (granted .0) n counted (c .args .into .now) (c .if-count-into .left);
       after = after ∙ filled-is (decoded bs) (rows n (drop 4 bs)) (granted .0) n counted (c .args .into .now);
       exact =
           ap encoded (ap (take n) after ∙ take-put (rows n (drop 4 bs)) (c .args .into .now) n counted (c .if-count-into .left))
-          ∙ c .in-Continue-count .ensures tt .exact (rows n (drop 4 bs)) (granted .0) }
+          ∙ c .in-Continue-count .ensures tt .exact (rows n (drop 4 bs)) (granted .0);
+    }

@@ -14,5 +14,5 @@ returns c d =
     let narrow : SFits w16 z = record { sfits = c .cast-signed-value .ok } in
     let wide : SFits w32 z = record { sfits = omega arith } in
     let v : z ≡ from-complement (word-at (c .args .rest .now) (c .args .i)) =
-        c .cast-signed-value .ensures ∙ complement-is (c .word-at .result) ∙ rw (c .word-at .ensures) in
+    c .cast-signed-value .ensures ∙ complement-is (c .word-at .result) ∙ rw (c .word-at .ensures) in
     rw (toZ-ofZ w16 z narrow, toZ-ofZ w32 z wide, v, c .word-at-weight .ensures) (sym (rows-at (c .args .count) (c .args .rest .now) (c .pre .long) (c .args .i) d (c .pre .within)))

@@ -19,10 +19,11 @@ returns-then-needed-into c =
     let n = 4 + 4 * c .len-count .result in
     let granted : storable rs ≡ Ok (encoded rs) = cond-true (leb (length rs) limit) _ _ (le-leb _ _ (omega arith)) in
     let counted : n ≡ length (encoded rs) = omega (arith, length-encoded rs) in
-    record
-    { value = delivered-over (storable rs) (encoded rs) granted n counted (c .args .into .now) (c .if-needed-into .taken);
+    record {
+      value = delivered-over (storable rs) (encoded rs) granted n counted (c .args .into .now) (c .if-needed-into .taken);
       after = filled-over (storable rs) (encoded rs) granted n counted (c .args .into .now) (c .if-needed-into .taken);
-      reads-back = tt }
+      reads-back = tt;
+    }
 
 pub returns : need.returns
 returns c =
@@ -33,10 +34,11 @@ returns c =
     let granted : storable rs ≡ Ok (encoded rs) = cond-true (leb (length rs) limit) _ _ (le-leb _ _ few) in
     let counted : n ≡ length (encoded rs) = omega (arith, length-encoded rs) in
     let after : c .put-column-2 .last .into ≡ put-from 0 (encoded rs) (c .args .into .now) =
-        whole-laid rs k (c .args .into .now) _ _ _ _ (c .len-count .ensures) (c .if-needed-into .left) (c .put-word .ensures) (c .put-word-2 .ensures) (c .put-column .ensures) (c .put-column-2 .ensures) in
-    record
-    { value = delivered-fits (storable rs) (encoded rs) granted n counted (c .args .into .now) (c .if-needed-into .left);
+    whole-laid rs k (c .args .into .now) _ _ _ _ (c .len-count .ensures) (c .if-needed-into .left) (c .put-word .ensures) (c .put-word-2 .ensures) (c .put-column .ensures) (c .put-column-2 .ensures) in
+    record {
+      value = delivered-fits (storable rs) (encoded rs) granted n counted (c .args .into .now) (c .if-needed-into .left);
       after = after ∙ filled-is (storable rs) (encoded rs) granted n counted (c .args .into .now);
       reads-back =
           ap decoded (ap (take n) after ∙ take-put (encoded rs) (c .args .into .now) n counted (c .if-needed-into .left))
-          ∙ reads-back rs (c .args .list .scaled) few }
+          ∙ reads-back rs (c .args .list .scaled) few;
+    }

@@ -1,0 +1,4 @@
+pub mod Letters
+pub mod Text
+pub mod Pages
+pub mod Numbers

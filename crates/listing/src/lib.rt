@@ -1,0 +1,10 @@
+// The listing of a stored profile under a measure, as bytes.
+mod export;
+mod letters;
+mod page;
+mod prints;
+
+pub use export::Answer;
+pub use export::fit_listing;
+pub use letters::Letter;
+pub use prints::listing;
