@@ -5,6 +5,10 @@ mod page;
 mod prints;
 
 pub use export::Answer;
+pub use export::AnswerDebug;
+pub use export::AnswerPartialEq;
 pub use export::fit_listing;
 pub use letters::Letter;
+pub use letters::LetterDebug;
+pub use letters::LetterPartialEq;
 pub use prints::listing;

@@ -2,6 +2,7 @@
 ghost use mathlib.Core.Path.{_≡_};
 ghost use Prim.Native.Nat.{_≤_};
 ghost use lib.ListN.{length};
+ghost use Rattle.std.specs.Vec.{made};
 ghost use Rattle.reading.specs.Lists.{delivered, filled, put-from};
 ghost use Rattle.listing.specs.Pages.{Printed};
 ghost use Rattle.listing.specs.Text.{heading, listing-of};
@@ -33,6 +34,7 @@ fn print(letter: Letter, readings: usize, output: &mut [u8]) -> usize
 pub fn listing(input: &[u8], output: &mut [u8]) -> Result<usize, Refusal>
     ensures value { λ r. ⌜ r ≡ delivered (listing-of (now (input .entry))) (now (output .entry)) ⌝ }
     ensures after { λ _. ⌜ now (output .exit) ≡ filled (listing-of (now (input .entry))) (now (output .entry)) ⌝ }
+    ensures within { λ r. ⌜ made r (λ n. n ≤ length (now (output .entry))) ⌝ }
 {
     let letter = Letter::of(input)?;
     let readings = stored::check(&input[1..])?;

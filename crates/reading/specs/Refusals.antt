@@ -1,5 +1,8 @@
 -- The table of refusals: of each its number, its place and where it is checked. Assumes nothing.
+use mathlib.Core.List.{List, _++_}
 use Prim.Native.Nat.{ℕ}
+use lib.Chars.{codes}
+use Rattle.std.specs.Written.{decimal}
 use Rattle.reading.specs.declared.refusals.Refusal.{Refusal}
 use Rattle.reading.specs.declared.refusals.Refusal.the-variants.{ValueOffScale, WeightOffScale, ProfileFull, PrefixAboveHeld, PlaceOutsidePrefix, NothingHeld, TooLittleRoom, UnknownLetter, WrongLength, SizesDiffer, TooMany}
 use Rattle.reading.specs.declared.refusals.Site.{Site}
@@ -46,3 +49,7 @@ site-of (UnknownLetter b) = AtLetter
 site-of (WrongLength n) = AtStored
 site-of SizesDiffer = AtStored
 site-of (TooMany n) = AtStored
+
+-- a refusal as text
+abbrev pub refusal-text : Refusal → List ℕ
+refusal-text e = codes "refused " ++ (decimal (number-of e) ++ (codes " " ++ decimal (place-of e)))

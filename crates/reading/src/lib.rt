@@ -6,7 +6,14 @@ mod slots;
 
 pub use list::Readings;
 pub use refusals::Refusal;
+pub use refusals::RefusalDebug;
+pub use refusals::RefusalDisplay;
+pub use refusals::RefusalPartialEq;
 pub use refusals::Site;
+pub use refusals::SiteDebug;
+pub use refusals::SitePartialEq;
 pub use scale::LIMIT;
 pub use scale::Reading;
+pub use scale::ReadingDebug;
+pub use scale::ReadingPartialEq;
 pub use slots::Bounded;

@@ -1,6 +1,8 @@
 // Every refusal of the library, with its number, its place and where it is checked.
 ghost use mathlib.Core.Path.{_≡_};
-ghost use Rattle.reading.specs.Refusals.{number-of, place-of, site-of};
+ghost use Rattle.std.specs.declared.option.Option.the-variants.{Some};
+ghost use Rattle.reading.specs.Refusals.{number-of, place-of, refusal-text, site-of};
+use std::fmt;
 
 // What a call found wrong. Each case carries the place that it points at, unless that is always 0.
 #[derive(Clone, Copy, PartialEq, Debug)]
@@ -79,5 +81,16 @@ impl Refusal {
             Refusal::WrongLength { .. } | Refusal::SizesDiffer | Refusal::TooMany { .. } =>
                 Site::AtStored,
         }
+    }
+}
+
+// As in `refused 9 3`: the number and the place.
+pub impl fmt::Display for Refusal as RefusalDisplay {
+    ghost shown = { λ x. Some (refusal-text x) };
+
+    fn fmt<W: fmt::Write>(&self, f: &mut fmt::Formatter<W>) -> fmt::Result {
+        let number = self.number();
+        let place = self.place();
+        write!(f, "refused {number} {place}")
     }
 }

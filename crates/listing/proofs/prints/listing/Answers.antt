@@ -11,7 +11,7 @@ pub returns-in-Break-readings : need.returns-in-Break-readings
 returns-in-Break-readings c =
     let p = err-from-errBy (c .from-residual-in-Break-readings .result) (c .from-residual-in-Break-readings .ensures .1) in
     let declined = listing-declined (c .args .input .now) _ (take-rest (c .args .input .now) 1) _ (c .in-Continue-letter .ensures tt) _ (c .in-Break-readings .ensures tt .value) in
-    rw (p .1, p .2) (record { value = rw declined; after = rw declined })
+    rw (p .1, p .2) (record { value = rw declined; after = rw declined; within = tt })
 
 pub returns-then-needed-output : need.returns-then-needed-output
 returns-then-needed-output c =
@@ -21,6 +21,7 @@ returns-then-needed-output c =
     record {
       value = delivered-over (listing-of input) text granted _ (c .print-needed .ensures .value) (c .args .output .now) (c .if-needed-output .taken);
       after = filled-over (listing-of input) text granted _ (c .print-needed .ensures .value) (c .args .output .now) (c .if-needed-output .taken);
+      within = tt;
     }
 
 pub returns : need.returns
@@ -31,4 +32,5 @@ returns c =
     record {
       value = delivered-fits (listing-of input) text granted _ (c .print-needed .ensures .value) (c .args .output .now) (c .if-needed-output .left);
       after = c .print .ensures .after (omega arith) ∙ filled-is (listing-of input) text granted _ (c .print-needed .ensures .value) (c .args .output .now);
+      within = c .if-needed-output .left;
     }
