@@ -25,3 +25,37 @@ fn run<R: Read + Drop, W: Write>(heap: Global, input: R, output: &mut W) -> io::
 fn main(rt: LibcRuntime) -> io::Result<()> {
     run(rt.alloc(), rt.stdin(), &mut rt.stdout())
 }
+
+#[cfg(test)]
+mod tests {
+    use super::*;
+    use std::test::*;
+
+    // What fitlist prints for a letter, sizes of 0 and zeros behind them, so many bytes in all.
+    fn printed(heap: Global, length: usize) -> io::Result<Vec<u8>> {
+        let mut input = vec![in heap; 0u8; length]?;
+        if length > 0 {
+            input[0] = b'A';
+        }
+        let mut output = Vec::new(heap);
+        run(heap, input.as_slice(), &mut output)?;
+        Ok(output)
+    }
+
+    #[test]
+    fn takes_the_first_65_536_bytes_as_the_whole_input(rt: LibcRuntime) -> Result<(), Fail> {
+        let heap = rt.alloc();
+        check_eq(printed(heap, 65_535)?.as_slice(), b"refused 9 65534\n")?;
+        check_eq(printed(heap, 65_536)?.as_slice(), b"refused 9 65535\n")?;
+        check_eq(printed(heap, 65_537)?.as_slice(), b"refused 9 65535\n")?;
+        check_eq(printed(heap, 200_000)?.as_slice(), b"refused 9 65535\n")
+    }
+
+    #[test]
+    fn prints_a_listing_or_a_refusal(rt: LibcRuntime) -> Result<(), Fail> {
+        let heap = rt.alloc();
+        check_eq(printed(heap, 0)?.as_slice(), b"refused 8 0\n")?;
+        check_eq(printed(heap, 1)?.as_slice(), b"refused 9 0\n")?;
+        check_eq(printed(heap, 5)?.as_slice(), b"measure A readings 0\n")
+    }
+}

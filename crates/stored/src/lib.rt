@@ -7,3 +7,6 @@ mod writes;
 pub use reads::check;
 pub use reads::read;
 pub use writes::write;
+
+#[cfg(test)]
+mod tests;
