@@ -17,3 +17,6 @@ pub use scale::Reading;
 pub use scale::ReadingDebug;
 pub use scale::ReadingPartialEq;
 pub use slots::Bounded;
+
+#[cfg(test)]
+mod tests;
