@@ -12,3 +12,6 @@ pub use letters::Letter;
 pub use letters::LetterDebug;
 pub use letters::LetterPartialEq;
 pub use prints::listing;
+
+#[cfg(test)]
+mod tests;
