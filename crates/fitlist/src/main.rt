@@ -1,10 +1,10 @@
 // fitlist: a measure letter and a stored profile from standard input, their listing to standard output.
 use listing::listing;
+use reading::RefusalDisplay;
 use std::alloc::Global;
 use std::io;
 use std::io::Read;
 use std::io::Write;
-use reading::RefusalDisplay;
 
 // What lies behind this many bytes of the input is not read.
 const INPUT_LIMIT: u64 = 65_536;

@@ -24,7 +24,10 @@ fn numbers_are_written_in_base_ten() -> Result<(), Fail> {
     page.put_decimal(u64::MAX);
     check_eq(page.count(), 55)?;
     let text: &[u8] = &bytes;
-    check_eq(text, b"0 9 -9 10 -30000 30000 -2147483648 18446744073709551615.........")
+    check_eq(
+        text,
+        b"0 9 -9 10 -30000 30000 -2147483648 18446744073709551615.........",
+    )
 }
 
 #[test]
@@ -46,7 +49,10 @@ fn a_listing_fits_or_is_refused_whole() -> Result<(), Fail> {
     let text: &[u8] = &output;
     check_eq(text, b"measure S readings 1\n.")?;
     let mut output = [b'.'; 20];
-    check_eq(listing(&SAMPLE, &mut output), Err(Refusal::TooLittleRoom { needed: 21 }))?;
+    check_eq(
+        listing(&SAMPLE, &mut output),
+        Err(Refusal::TooLittleRoom { needed: 21 }),
+    )?;
     let text: &[u8] = &output;
     check_eq(text, &[b'.'; 20])
 }
@@ -54,8 +60,40 @@ fn a_listing_fits_or_is_refused_whole() -> Result<(), Fail> {
 #[test]
 fn an_answer_in_numbers_tells_the_same() -> Result<(), Fail> {
     let mut output = [b'.'; 22];
-    check_eq(fit_listing(&SAMPLE, &mut output), Answer { written: 21, place: 0, number: 0, site: 0 })?;
-    check_eq(fit_listing(b"?", &mut output), Answer { written: 0, place: 63, number: 8, site: 4 })?;
-    check_eq(fit_listing(b"A", &mut output), Answer { written: 0, place: 0, number: 9, site: 5 })?;
-    check_eq(fit_listing(&SAMPLE, &mut []), Answer { written: 0, place: 21, number: 7, site: 3 })
+    check_eq(
+        fit_listing(&SAMPLE, &mut output),
+        Answer {
+            written: 21,
+            place: 0,
+            number: 0,
+            site: 0,
+        },
+    )?;
+    check_eq(
+        fit_listing(b"?", &mut output),
+        Answer {
+            written: 0,
+            place: 63,
+            number: 8,
+            site: 4,
+        },
+    )?;
+    check_eq(
+        fit_listing(b"A", &mut output),
+        Answer {
+            written: 0,
+            place: 0,
+            number: 9,
+            site: 5,
+        },
+    )?;
+    check_eq(
+        fit_listing(&SAMPLE, &mut []),
+        Answer {
+            written: 0,
+            place: 21,
+            number: 7,
+            site: 3,
+        },
+    )
 }

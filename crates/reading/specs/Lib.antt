@@ -2,3 +2,4 @@ pub mod Results
 pub mod Refusals
 pub mod Scale
 pub mod Lists
+pub mod Bounds

@@ -3,6 +3,7 @@ ghost use denote.Ref.{now};
 ghost use Prim.Native.Nat.{_≤_};
 ghost use lib.ListN.{length};
 
+mod ends;
 mod fills;
 
 // The first `count` slots are the list; the rest still hold what the caller left there.

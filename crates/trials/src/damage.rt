@@ -27,7 +27,11 @@ impl Tally {
 }
 
 pub fn one_byte(rt: &LibcRuntime, sample: &[u8; 21]) -> io::Result<()> {
-    let mut tally = Tally { granted: 0, refused: [0; 12], spoiled: 0 };
+    let mut tally = Tally {
+        granted: 0,
+        refused: [0; 12],
+        spoiled: 0,
+    };
     for at in 0..21usize {
         for byte in 0..=255u8 {
             let mut input = *sample;
@@ -37,7 +41,10 @@ pub fn one_byte(rt: &LibcRuntime, sample: &[u8; 21]) -> io::Result<()> {
     }
     let granted = tally.granted;
     let spoiled = tally.spoiled;
-    println!(rt, "one byte changed: {granted} granted, {spoiled} outputs spoiled")?;
+    println!(
+        rt,
+        "one byte changed: {granted} granted, {spoiled} outputs spoiled"
+    )?;
     for (number, count) in tally.refused.iter().enumerate() {
         if *count > 0 {
             println!(rt, "one byte changed: refused {number} came {count} times")?;

@@ -9,7 +9,29 @@ use reading::RefusalDisplay;
 use std::io;
 
 // L and the readings 1, 4, 2, 6, each of weight 1.
-const SAMPLE: [u8; 21] = [b'L', 4, 0, 4, 0, 1, 0, 4, 0, 2, 0, 6, 0, 1, 0, 1, 0, 1, 0, 1, 0];
+const SAMPLE: [u8; 21] = [
+    b'L',
+    4,
+    0,
+    4,
+    0,
+    1,
+    0,
+    4,
+    0,
+    2,
+    0,
+    6,
+    0,
+    1,
+    0,
+    1,
+    0,
+    1,
+    0,
+    1,
+    0,
+];
 
 fn report(rt: &LibcRuntime, answer: Result<usize, Refusal>) -> io::Result<()> {
     match answer {
@@ -45,12 +67,25 @@ fn lettered(rt: &LibcRuntime) -> io::Result<()> {
             }
         }
     }
-    println!(rt, "letters: {granted} granted, {refused} refused by their byte")
+    println!(
+        rt,
+        "letters: {granted} granted, {refused} refused by their byte"
+    )
 }
 
 // The sample with other sizes.
 fn sized(rt: &LibcRuntime) -> io::Result<()> {
-    for (values, weights) in [(0u16, 0u16), (3, 3), (5, 5), (1_024, 1_024), (1_025, 1_025), (65_535, 65_535), (4, 3), (4, 260), (1_025, 1_024)] {
+    for (values, weights) in [
+        (0u16, 0u16),
+        (3, 3),
+        (5, 5),
+        (1_024, 1_024),
+        (1_025, 1_025),
+        (65_535, 65_535),
+        (4, 3),
+        (4, 260),
+        (1_025, 1_024),
+    ] {
         let mut output = [0u8; 64];
         let mut input = SAMPLE;
         let [a, b] = values.to_le_bytes();

@@ -4,10 +4,10 @@ use reading::LIMIT;
 use reading::Reading;
 use reading::ReadingPartialEq;
 use reading::Readings;
+use reading::RefusalPartialEq;
 use std::io;
 use stored::read;
 use stored::write;
-use reading::RefusalPartialEq;
 
 const BYTES: usize = 4_100;
 
@@ -30,13 +30,19 @@ impl Random {
             1 => 30_000,
             _ => (self.next(60_001) as i32).saturating_sub(30_000),
         };
-        Reading { value, weight: self.next(1_000).saturating_add(1) }
+        Reading {
+            value,
+            weight: self.next(1_000).saturating_add(1),
+        }
     }
 }
 
 // Whether so many random readings come back as they were, from bytes that come back too.
 fn returns(random: &mut Random, count: usize) -> bool {
-    let mut rows = [Reading { value: 0, weight: 1 }; LIMIT];
+    let mut rows = [Reading {
+        value: 0,
+        weight: 1,
+    }; LIMIT];
     for row in rows.iter_mut() {
         *row = random.reading();
     }
@@ -46,7 +52,10 @@ fn returns(random: &mut Random, count: usize) -> bool {
         return false;
     };
     let length = length.min(BYTES);
-    let mut back = [Reading { value: 0, weight: 1 }; LIMIT];
+    let mut back = [Reading {
+        value: 0,
+        weight: 1,
+    }; LIMIT];
     if read(&bytes[0..length], &mut back) != Ok(count) || back[0..count] != rows[0..count] {
         return false;
     }
