@@ -19,6 +19,9 @@ at-place-within xs (suc i) d low high =
     let h : i < length xs = omega arith in
     rw e (sym (nth-getD xs i d h))
 
+pub at-place-zero : {X : Type 0} (xs : List X) (p : ℕ) → p ≡ 0 → None ≡ at-place xs p
+at-place-zero xs p e = rw e
+
 pub at-place-outside : {X : Type 0} (xs : List X) (p : ℕ) → length xs < p → None ≡ at-place xs p
 at-place-outside xs zero h = refl
 at-place-outside xs (suc i) h = sym (nth-past xs i (omega arith))

@@ -3,9 +3,22 @@ ghost use mathlib.Core.List.{[]};
 ghost use mathlib.Core.Path.{_≡_};
 ghost use lib.ListN.{length};
 ghost use Rattle.reading.specs.Lists.{at-place, stretch};
-ghost use Rattle.reading.specs.Scale.{scaled-front};
+ghost use Rattle.reading.specs.Scale.{Scaled, scaled-front};
 use crate::list::Readings;
 use crate::scale::Reading;
+
+// The rows before the first that is off the scale.
+fn scaled_rows(rows: &[Reading]) -> &[Reading]
+    ensures front { λ r. ⌜ now r ≡ scaled-front (now (rows .entry)) ⌝ }
+    ensures scaled { λ r. ⌜ Scaled (now r) ⌝ }
+{
+    for (i, row) in rows.iter().enumerate() {
+        if !row.is_on_scale() {
+            return &rows[0..i];
+        }
+    }
+    rows
+}
 
 impl<'a> Readings<'a> {
     pub fn none() -> Readings<'a>
@@ -18,12 +31,9 @@ impl<'a> Readings<'a> {
     pub fn of(rows: &'a [Reading]) -> Readings<'a>
         ensures { λ r. ⌜ now (r .rows) ≡ scaled-front (now (rows .entry)) ⌝ }
     {
-        for (i, row) in rows.iter().enumerate() {
-            if !row.is_on_scale() {
-                return Readings { rows: &rows[0..i] };
-            }
+        Readings {
+            rows: scaled_rows(rows),
         }
-        Readings { rows }
     }
 
     pub fn len(self) -> usize
