@@ -1,10 +1,10 @@
 -- Texts put on a page one after another are one text put on it.
 use mathlib.Core.Bool.{false}
 use mathlib.Core.List.{List, [], _∷_, _++_}
-use mathlib.Core.Path.{_≡_, sym, ap, subst, _∙_}
+use mathlib.Core.Path.{_≡_, ap, subst, _∙_}
 use native.Mathlib.Omega.{arith}
-use denote.Ref.{name, now}
-use Prim.Native.Nat.{ℕ, min, _+_, _-_, _^_, _<_, _≤_}
+use denote.Ref.{now}
+use Prim.Native.Nat.{ℕ, _+_, _^_, _<_, _≤_}
 use lib.IntN.{ℤ, pos, negsuc, natAbs}
 use lib.ListN.{length}
 use lib.Signed.{leZ}

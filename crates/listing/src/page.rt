@@ -1,5 +1,4 @@
 // A page: text that is put down in order, and only counted where the page has no room for it.
-ghost use mathlib.Core.List.{[], _∷_};
 ghost use mathlib.Core.Path.{_≡_};
 ghost use denote.Ref.{name};
 ghost use Rattle.std.specs.Written.{decimal, signed};

@@ -1,11 +1,10 @@
 -- Entries put into a list from a place on: where there is room, one at a time, and where there is none.
-use mathlib.Core.Bool.{true}
 use mathlib.Core.List.{List, [], _∷_, _++_}
 use mathlib.Core.Path.{_≡_, refl, sym, ap, _∙_}
 use native.Mathlib.Nat.{add-zero}
 use native.Mathlib.Numerals.{add-one}
 use native.Mathlib.Omega.{arith}
-use Prim.Native.Nat.{ℕ, suc, min, _+_, _-_, _<_, _≤_, _^_}
+use Prim.Native.Nat.{ℕ, min, _+_, _-_, _<_, _≤_, _^_}
 use lib.Dec.{leb}
 use lib.ListN.{length, getD, set, take, drop}
 use lib.Seq.{paste}

@@ -1,10 +1,9 @@
 -- Stored bytes whose sizes agree with each other, with the limit and with the length: what they decode to.
-use mathlib.Core.Bool.{true}
-use mathlib.Core.List.{List, [], _∷_, _++_}
+use mathlib.Core.List.{List, [], _∷_}
 use mathlib.Core.Path.{_≡_, refl, sym, ap, subst, _∙_}
 use native.Mathlib.Omega.{arith}
-use Prim.Native.Nat.{ℕ, suc, _+_, _-_, _*_, _<_, _≤_}
-use lib.ListN.{length, getD, take, drop}
+use Prim.Native.Nat.{ℕ, _+_, _*_, _≤_}
+use lib.ListN.{length, getD, drop}
 use Rattle.std.proofs.shelf.Lists.{length-drop}
 use Rattle.std.specs.Vec.{made}
 use Rattle.std.specs.declared.result.Result.{Result}
@@ -14,7 +13,7 @@ use Rattle.reading.specs.declared.scale.Reading.{Reading}
 use Rattle.reading.specs.Results.{then}
 use Rattle.reading.specs.Scale.{limit, admitted}
 use Rattle.reading.proofs.Verdicts.{then-granted}
-use Rattle.stored.specs.Forms.{rows, all-admitted, decoded, encoded}
+use Rattle.stored.specs.Forms.{stored-rows, all-admitted, decoded, encoded}
 use Rattle.stored.specs.Words.{word-at}
 use Rattle.stored.proofs.Pairs.{Bytes}
 use Rattle.stored.proofs.Table.{length-rows}
@@ -41,33 +40,33 @@ module _ (bs : List ℕ) (n : ℕ) (first : n ≡ word-at bs 0) (second : n ≡ 
   rest-long : length (drop 4 bs) ≡ 4 * n
   rest-long = simp length-drop (omega arith)
 
-  pub decoded-is : decoded bs ≡ all-admitted 1 (rows n (drop 4 bs))
+  pub decoded-is : decoded bs ≡ all-admitted 1 (stored-rows n (drop 4 bs))
   decoded-is =
       ap decoded (four-parts bs (omega arith))
       ∙ sized-is (word-at bs 0) (word-at bs 1) (drop 4 bs) (sym first ∙ second) (omega arith) (rest-long ∙ ap (λ k. 4 * k) first)
-      ∙ ap (λ k. all-admitted 1 (rows k (drop 4 bs))) (sym first)
+      ∙ ap (λ k. all-admitted 1 (stored-rows k (drop 4 bs))) (sym first)
 
-  rows-exact : Bytes bs → encoded (rows n (drop 4 bs)) ≡ bs
+  rows-exact : Bytes bs → encoded (stored-rows n (drop 4 bs)) ≡ bs
   rows-exact all =
       let parts = four-parts bs (omega arith) in
       reads-exact (getD bs 0 0) (getD bs 1 0) (getD bs 2 0) (getD bs 3 0) n (drop 4 bs) (subst Bytes parts all) (sym first) (sym second) rest-long ∙ sym parts
 
   -- bytes that read are those that writing gives
   pub decoded-exact : Bytes bs → (rs : List Reading) → decoded bs ≡ Ok rs → encoded rs ≡ bs
-  decoded-exact all rs h = ap encoded (all-admitted-same 1 (rows n (drop 4 bs)) rs (sym decoded-is ∙ h)) ∙ rows-exact all
+  decoded-exact all rs h = ap encoded (all-admitted-same 1 (stored-rows n (drop 4 bs)) rs (sym decoded-is ∙ h)) ∙ rows-exact all
 
   -- the count is that of the readings
   pub counted : (d : Result (List Reading) Refusal) → d ≡ decoded bs → then d (λ _. Ok n) ≡ then d (λ rs. Ok (length rs))
   counted (Err e) h = refl
   counted (Ok rs) h =
-      let same = all-admitted-same 1 (rows n (drop 4 bs)) rs (sym decoded-is ∙ sym h) in
+      let same = all-admitted-same 1 (stored-rows n (drop 4 bs)) rs (sym decoded-is ∙ sym h) in
       ap Ok (sym (length-rows n (drop 4 bs) rest-long) ∙ ap length (sym same))
 
   -- what is granted is the rows behind the sizes
   pub granted-rows :
       (d : Result (List Reading) Refusal) → d ≡ decoded bs
-      → made (then d (λ _. Ok n)) (λ m. (decoded bs ≡ Ok (rows m (drop 4 bs))) × (length bs ≡ 4 + 4 * m))
+      → made (then d (λ _. Ok n)) (λ m. (decoded bs ≡ Ok (stored-rows m (drop 4 bs))) × (length bs ≡ 4 + 4 * m))
   granted-rows (Err e) h = tt
   granted-rows (Ok rs) h =
-      let same = all-admitted-same 1 (rows n (drop 4 bs)) rs (sym decoded-is ∙ sym h) in
+      let same = all-admitted-same 1 (stored-rows n (drop 4 bs)) rs (sym decoded-is ∙ sym h) in
       (sym h ∙ ap Ok same, long)

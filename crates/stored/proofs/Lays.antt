@@ -1,5 +1,5 @@
 -- The stored form as it is laid down: a column word by word, and the whole part by part.
-use mathlib.Core.List.{List, [], _∷_, _++_}
+use mathlib.Core.List.{List, [], _++_}
 use mathlib.Core.Path.{_≡_, refl, sym, ap, _∙_}
 use native.Mathlib.Omega.{arith}
 use Prim.Native.Nat.{ℕ, _+_, _*_, _<_, _≤_}
@@ -10,26 +10,26 @@ use Rattle.reading.specs.Lists.{put-from}
 use Rattle.reading.specs.declared.scale.Reading.{Reading}
 use Rattle.stored.specs.declared.columns.Column.{Column}
 use Rattle.stored.specs.declared.columns.Column.the-variants.{Values, Weights}
-use Rattle.stored.specs.Forms.{cell, column-bytes, encoded}
+use Rattle.stored.specs.Forms.{cell-of, column-bytes, encoded}
 use Rattle.stored.specs.Words.{split}
 use Rattle.stored.proofs.Trips.{length-column}
 
 column-more :
     (column : Column) (rs : List Reading) (i : ℕ) (d : Reading) → i < length rs
-    → column-bytes column (take i rs) ++ split (cell column (getD rs i d)) ≡ column-bytes column (take (i + 1) rs)
+    → column-bytes column (take i rs) ++ split (cell-of column (getD rs i d)) ≡ column-bytes column (take (i + 1) rs)
 column-more column rs i d h =
-    joined-more (λ r. split (cell column r)) [] (take i rs) (getD rs i d) ∙ ap (column-bytes column) (sym (take-more rs i d h))
+    joined-more (λ r. split (cell-of column r)) [] (take i rs) (getD rs i d) ∙ ap (column-bytes column) (sym (take-more rs i d h))
 
 -- one word more of a column, laid behind those that are there
 pub column-laid :
     (column : Column) (rs : List Reading) (out cur : List ℕ) (at i : ℕ) (d : Reading) → i < length rs → 2 * (at + length rs) ≤ length out
     → cur ≡ put-from (2 * at) (column-bytes column (take i rs)) out
-    → put-from (2 * (at + i)) (split (cell column (getD rs i d))) cur ≡ put-from (2 * at) (column-bytes column (take (i + 1) rs)) out
+    → put-from (2 * (at + i)) (split (cell-of column (getD rs i d))) cur ≡ put-from (2 * at) (column-bytes column (take (i + 1) rs)) out
 column-laid column rs out cur at i d h room so-far =
     let long = length-column column (take i rs) in
     let k = length-take i rs in
-    ap (put-from (2 * (at + i)) (split (cell column (getD rs i d)))) so-far
-    ∙ put-then out (2 * at) (column-bytes column (take i rs)) (split (cell column (getD rs i d))) (2 * (at + i)) (omega arith) (omega arith)
+    ap (put-from (2 * (at + i)) (split (cell-of column (getD rs i d)))) so-far
+    ∙ put-then out (2 * at) (column-bytes column (take i rs)) (split (cell-of column (getD rs i d))) (2 * (at + i)) (omega arith) (omega arith)
     ∙ ap (λ bs. put-from (2 * at) bs out) (column-more column rs i d h)
 
 -- the two sizes, the values and the weights, laid one behind the other, are the stored bytes

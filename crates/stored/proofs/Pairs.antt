@@ -1,19 +1,19 @@
 -- Numbers as two bytes: there and back, one and many.
-use mathlib.Core.Bool.{Bool, true, false, cond}
+use mathlib.Core.Bool.{cond}
 use mathlib.Core.List.{List, [], _∷_, _++_}
 use mathlib.Core.Logic.{inl, inr}
 use mathlib.Core.Path.{_≡_, refl, sym, ap, _∙_}
 use native.Mathlib.Nat.{add-mul-div-right, add-mul-mod-self-right, div-eq-of-lt, mod-eq-of-lt, zero-add}
 use native.Mathlib.Omega.{arith}
-use Prim.Native.Nat.{ℕ, zero, suc, _+_, _-_, _*_, _/_, _%_, _<_, _≤_}
-use lib.Dec.{ltb, leb}
-use lib.IntN.{ℤ, pos, negsuc}
+use Prim.Native.Nat.{ℕ, zero, suc, _+_, _-_, _*_, _/_, _%_, _<_}
+use lib.Dec.{ltb}
+use lib.IntN.{pos, negsuc}
 use lib.ListN.{length, getD, take, drop}
 use mir.Syntax.{w16}
 use mir.Val.{toZ}
 use Rattle.std.specs.Joined.{joined}
 use Rattle.std.proofs.shelf.Lists.{getD-take, getD-drop, getD-past, length-take}
-use Rattle.std.proofs.shelf.Tests.{cases-lt, cond-true, cond-false, cond-both, lt-ltb, le-ltb, ltb-true, ltb-false}
+use Rattle.std.proofs.shelf.Tests.{cases-lt, cond-true, cond-false, cond-both, lt-ltb, le-ltb}
 use Rattle.stored.specs.Words.{word, word-at, split, words, from-complement, to-complement}
 
 -- every entry is a byte

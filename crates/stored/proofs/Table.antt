@@ -1,9 +1,8 @@
 -- The rows behind the sizes: how many, which stands where, and when all are admitted.
-use mathlib.Core.Bool.{true, cond}
 use mathlib.Core.List.{List, [], _∷_, _++_, map}
 use mathlib.Core.Path.{_≡_, refl, sym, ap, _∙_}
 use native.Mathlib.Omega.{arith}
-use Prim.Native.Nat.{ℕ, zero, suc, min, _+_, _-_, _*_, _<_, _≤_}
+use Prim.Native.Nat.{ℕ, zero, suc, _+_, _*_, _<_, _≤_}
 use lib.IntN.{ℤ}
 use lib.ListN.{length, getD, take, drop}
 use Rattle.std.proofs.shelf.Lists.{append-assoc, append-nil, at-drop-more, at-drop-all, getD-drop, getD-map, getD-take, length-drop, length-map, length-take, take-all, take-more}
@@ -13,8 +12,8 @@ use Rattle.reading.specs.declared.refusals.Refusal.{Refusal}
 use Rattle.reading.specs.declared.scale.Reading.{Reading}
 use Rattle.reading.specs.Results.{then}
 use Rattle.reading.specs.Scale.{admitted}
-use Rattle.stored.specs.Forms.{paired, rows, all-admitted}
-use Rattle.stored.specs.Words.{word, word-at, words, from-complement}
+use Rattle.stored.specs.Forms.{paired, stored-rows, all-admitted}
+use Rattle.stored.specs.Words.{word-at, words, from-complement}
 use Rattle.stored.proofs.Pairs.{length-words, words-at}
 
 length-paired : (vs : List ℤ) (ws : List ℕ) → length vs ≡ length ws → length (paired vs ws) ≡ length ws
@@ -44,13 +43,13 @@ module _ (n : ℕ) (rest : List ℕ) (long : length rest ≡ 4 * n) where
   weights-long : length (words (drop (2 * n) rest)) ≡ n
   weights-long = length-words (drop (2 * n) rest) n back-long
 
-  pub length-rows : length (rows n rest) ≡ n
+  pub length-rows : length (stored-rows n rest) ≡ n
   length-rows = length-paired _ _ (values-long ∙ sym weights-long) ∙ weights-long
 
   -- the row at index i: its value among the first 2n bytes, its weight among the last
   pub rows-at :
       (i : ℕ) (d : Reading) → i < n
-      → getD (rows n rest) i d
+      → getD (stored-rows n rest) i d
       ≡ record {
         value = from-complement (word-at rest i);
         weight = word-at rest (n + i);

@@ -24,8 +24,8 @@ paired (v ∷ vs) [] = []
 paired (v ∷ vs) (w ∷ ws) = record { value = v; weight = w } ∷ paired vs ws
 
 -- the n values and n weights that are stored behind the sizes, whether on the scale or not
-abbrev pub rows : ℕ → List ℕ → List Reading
-rows n rest = paired (map from-complement (words (take (2 * n) rest))) (words (drop (2 * n) rest))
+abbrev pub stored-rows : ℕ → List ℕ → List Reading
+stored-rows n rest = paired (map from-complement (words (take (2 * n) rest))) (words (drop (2 * n) rest))
 
 -- the readings, if all are on the scale; else what is wrong with the first that is not, the first reading having place p
 abbrev pub all-admitted : ℕ → List Reading → Result (List Reading) Refusal
@@ -36,7 +36,7 @@ all-admitted p (r ∷ rs) = then (admitted r p) (λ _. then (all-admitted (p + 1
 abbrev pub sized : ℕ → ℕ → List ℕ → Result (List Reading) Refusal
 sized m n rest =
     cond (eqb m n)
-    (cond (leb m limit) (cond (eqb (length rest) (4 * m)) (all-admitted 1 (rows m rest)) (Err (WrongLength (4 + length rest)))) (Err (TooMany m)))
+    (cond (leb m limit) (cond (eqb (length rest) (4 * m)) (all-admitted 1 (stored-rows m rest)) (Err (WrongLength (4 + length rest)))) (Err (TooMany m)))
     (Err SizesDiffer)
 
 -- the readings that stored bytes hold, or what is wrong with the bytes
@@ -48,13 +48,13 @@ decoded (a ∷ b ∷ c ∷ []) = Err (WrongLength 3)
 decoded (a ∷ b ∷ c ∷ d ∷ rest) = sized (word a b) (word c d) rest
 
 -- what one column stores of a reading
-abbrev pub cell : Column → Reading → ℕ
-cell Values r = to-complement (r .value)
-cell Weights r = r .weight
+abbrev pub cell-of : Column → Reading → ℕ
+cell-of Values r = to-complement (r .value)
+cell-of Weights r = r .weight
 
 -- a column as bytes
 abbrev pub column-bytes : Column → List Reading → List ℕ
-column-bytes column rs = joined (λ r. split (cell column r)) rs
+column-bytes column rs = joined (λ r. split (cell-of column r)) rs
 
 -- the stored bytes of readings
 abbrev pub encoded : List Reading → List ℕ

@@ -2,7 +2,7 @@
 ghost use mathlib.Core.Bool.{true};
 ghost use mathlib.Core.Path.{_≡_};
 ghost use Rattle.reading.specs.Scale.{on-scale};
-ghost use Rattle.stored.specs.Forms.{cell};
+ghost use Rattle.stored.specs.Forms.{cell-of};
 use reading::Reading;
 
 #[derive(Clone, Copy)]
@@ -14,7 +14,7 @@ pub(crate) enum Column {
 impl Column {
     pub(crate) fn cell(self, row: Reading) -> u16
         requires { ⌜ on-scale row ≡ true ⌝ }
-        ensures { λ r. ⌜ r ≡ cell self row ⌝ }
+        ensures { λ r. ⌜ r ≡ cell-of self row ⌝ }
     {
         match self {
             Column::Values => (row.value as i16).cast_unsigned(),

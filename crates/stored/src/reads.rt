@@ -8,7 +8,7 @@ ghost use Rattle.std.specs.declared.result.Result.the-variants.{Ok};
 ghost use Rattle.reading.specs.declared.scale.Reading.{Reading};
 ghost use Rattle.reading.specs.Lists.{delivered, filled, put-from};
 ghost use Rattle.reading.specs.Results.{then};
-ghost use Rattle.stored.specs.Forms.{all-admitted, decoded, encoded, rows};
+ghost use Rattle.stored.specs.Forms.{all-admitted, decoded, encoded, stored-rows};
 use crate::words::word_at;
 use reading::LIMIT;
 use reading::Reading;
@@ -18,7 +18,7 @@ use reading::Refusal;
 fn row_at(rest: &[u8], count: usize, i: usize) -> Reading
     requires long { ⌜ length (now rest) ≡ 4 * count ⌝ }
     requires within { ⌜ i < count ⌝ }
-    ensures { λ r. ⌜ ((d : Reading) → r ≡ getD (rows count (now (rest .entry))) i d) ⌝ }
+    ensures { λ r. ⌜ ((d : Reading) → r ≡ getD (stored-rows count (now (rest .entry))) i d) ⌝ }
 {
     let value = word_at(rest, i).cast_signed() as i32;
     let weight = word_at(rest, count + i) as u32;
@@ -28,7 +28,7 @@ fn row_at(rest: &[u8], count: usize, i: usize) -> Reading
 // How many rows there are, if each is on the scale; else what is wrong with the first that is not.
 fn check_rows(rest: &[u8], count: usize) -> Result<usize, Refusal>
     requires { ⌜ length (now rest) ≡ 4 * count ⌝ }
-    ensures { λ r. ⌜ r ≡ then (all-admitted 1 (rows count (now (rest .entry)))) (λ _. Ok count) ⌝ }
+    ensures { λ r. ⌜ r ≡ then (all-admitted 1 (stored-rows count (now (rest .entry)))) (λ _. Ok count) ⌝ }
 {
     for i in 0..count {
         row_at(rest, count, i).admit(i + 1)?;
@@ -40,7 +40,7 @@ fn check_rows(rest: &[u8], count: usize) -> Result<usize, Refusal>
 fn fill_rows(rest: &[u8], count: usize, into: &mut [Reading])
     requires long { ⌜ length (now rest) ≡ 4 * count ⌝ }
     requires room { ⌜ count ≤ length (now into) ⌝ }
-    ensures { λ _. ⌜ now (into .exit) ≡ put-from 0 (rows count (now (rest .entry))) (now (into .entry)) ⌝ }
+    ensures { λ _. ⌜ now (into .exit) ≡ put-from 0 (stored-rows count (now (rest .entry))) (now (into .entry)) ⌝ }
 {
     for i in 0..count {
         into[i] = row_at(rest, count, i);
@@ -50,7 +50,7 @@ fn fill_rows(rest: &[u8], count: usize, into: &mut [Reading])
 // How many readings stored bytes hold; refused where the bytes are no stored profile.
 pub fn check(bytes: &[u8]) -> Result<usize, Refusal>
     ensures value { λ r. ⌜ r ≡ then (decoded (now (bytes .entry))) (λ rs. Ok (length rs)) ⌝ }
-    ensures rows { λ r. ⌜ made r (λ n. (decoded (now (bytes .entry)) ≡ Ok (rows n (drop 4 (now (bytes .entry))))) × (length (now (bytes .entry)) ≡ 4 + 4 * n)) ⌝ }
+    ensures rows { λ r. ⌜ made r (λ n. (decoded (now (bytes .entry)) ≡ Ok (stored-rows n (drop 4 (now (bytes .entry))))) × (length (now (bytes .entry)) ≡ 4 + 4 * n)) ⌝ }
     ensures exact { λ _. ⌜ ((rs : List Reading) → decoded (now (bytes .entry)) ≡ Ok rs → encoded rs ≡ now (bytes .entry)) ⌝ }
 {
     let [a, b, c, d, rest @ ..] = bytes else {

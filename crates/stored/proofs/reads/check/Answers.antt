@@ -5,7 +5,7 @@ use Rattle.std.proofs.shelf.Lists.{take-rest}
 use Rattle.std.specs.Vec.{made}
 use Rattle.std.specs.declared.result.Result.the-variants.{Ok}
 use Rattle.reading.specs.Results.{then}
-use Rattle.stored.specs.Forms.{rows, all-admitted, decoded}
+use Rattle.stored.specs.Forms.{stored-rows, all-admitted, decoded}
 use Rattle.stored.specs.Words.{word-at}
 use Rattle.stored.proofs.Pairs.{Bytes}
 use Rattle.stored.proofs.Headers.{counted, decoded-exact, decoded-is, granted-rows}
@@ -21,9 +21,9 @@ returns c =
     let is = decoded-is bs n (c .from-le-bytes-values .ensures) second (c .if-values-gt-LIMIT .left) long in
     let all : Bytes bs = λ k. c .typed .bytes k .fits in
     let r : c .check-rows .result ≡ then (decoded bs) (λ _. Ok n) =
-    c .check-rows .ensures ∙ ap (λ xs. then (all-admitted 1 (rows n xs)) (λ _. Ok n)) rest ∙ ap (λ d. then d (λ _. Ok n)) (sym is) in
+    c .check-rows .ensures ∙ ap (λ xs. then (all-admitted 1 (stored-rows n xs)) (λ _. Ok n)) rest ∙ ap (λ d. then d (λ _. Ok n)) (sym is) in
     record {
       value = r ∙ counted bs n (c .from-le-bytes-values .ensures) second (c .if-values-gt-LIMIT .left) long (decoded bs) refl;
-      rows = subst (λ q. made q (λ m. (decoded bs ≡ Ok (rows m (drop 4 bs))) × (length bs ≡ 4 + 4 * m))) (sym r) (granted-rows bs n (c .from-le-bytes-values .ensures) second (c .if-values-gt-LIMIT .left) long (decoded bs) refl);
+      rows = subst (λ q. made q (λ m. (decoded bs ≡ Ok (stored-rows m (drop 4 bs))) × (length bs ≡ 4 + 4 * m))) (sym r) (granted-rows bs n (c .from-le-bytes-values .ensures) second (c .if-values-gt-LIMIT .left) long (decoded bs) refl);
       exact = decoded-exact bs n (c .from-le-bytes-values .ensures) second (c .if-values-gt-LIMIT .left) long all;
     }

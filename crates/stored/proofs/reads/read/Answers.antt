@@ -1,4 +1,4 @@
-use mathlib.Core.Path.{_≡_, refl, sym, ap, _∙_}
+use mathlib.Core.Path.{_≡_, sym, ap, _∙_}
 use native.Mathlib.Omega.{arith}
 use Prim.Native.Nat.{_*_}
 use lib.ListN.{drop, length, take}
@@ -7,7 +7,7 @@ use Rattle.std.proofs.shelf.Results.{err-from-errBy}
 use Rattle.reading.proofs.Puts.{delivered-fits, delivered-over, filled-is, filled-over, take-put}
 use Rattle.reading.proofs.Verdicts.{then-declined}
 use Rattle.reading.specs.Lists.{put-from}
-use Rattle.stored.specs.Forms.{rows, decoded, encoded}
+use Rattle.stored.specs.Forms.{stored-rows, decoded, encoded}
 use Rattle.stored.proofs.Table.{length-rows}
 use Rattle.stored.proofs.reads.read.Needs as need
 
@@ -25,8 +25,8 @@ returns-then-count-into c =
     let long : length (drop 4 bs) ≡ 4 * n = simp length-drop (omega (arith, granted .1)) in
     let counted = sym (length-rows n (drop 4 bs) long) in
     record {
-      value = delivered-over (decoded bs) (rows n (drop 4 bs)) (granted .0) n counted (c .args .into .now) (c .if-count-into .taken);
-      after = filled-over (decoded bs) (rows n (drop 4 bs)) (granted .0) n counted (c .args .into .now) (c .if-count-into .taken);
+      value = delivered-over (decoded bs) (stored-rows n (drop 4 bs)) (granted .0) n counted (c .args .into .now) (c .if-count-into .taken);
+      after = filled-over (decoded bs) (stored-rows n (drop 4 bs)) (granted .0) n counted (c .args .into .now) (c .if-count-into .taken);
       exact = tt;
     }
 
@@ -37,12 +37,12 @@ returns c =
     let granted = c .in-Continue-count .ensures tt .rows in
     let long : length (drop 4 bs) ≡ 4 * n = simp length-drop (omega (arith, granted .1)) in
     let counted = sym (length-rows n (drop 4 bs) long) in
-    let after : c .fill-rows .last .into ≡ put-from 0 (rows n (drop 4 bs)) (c .args .into .now) =
-    c .fill-rows .ensures ∙ ap (λ xs. put-from 0 (rows n xs) (c .args .into .now)) (take-rest bs 4) in
+    let after : c .fill-rows .last .into ≡ put-from 0 (stored-rows n (drop 4 bs)) (c .args .into .now) =
+    c .fill-rows .ensures ∙ ap (λ xs. put-from 0 (stored-rows n xs) (c .args .into .now)) (take-rest bs 4) in
     record {
-      value = delivered-fits (decoded bs) (rows n (drop 4 bs)) (granted .0) n counted (c .args .into .now) (c .if-count-into .left);
-      after = after ∙ filled-is (decoded bs) (rows n (drop 4 bs)) (granted .0) n counted (c .args .into .now);
+      value = delivered-fits (decoded bs) (stored-rows n (drop 4 bs)) (granted .0) n counted (c .args .into .now) (c .if-count-into .left);
+      after = after ∙ filled-is (decoded bs) (stored-rows n (drop 4 bs)) (granted .0) n counted (c .args .into .now);
       exact =
-          ap encoded (ap (take n) after ∙ take-put (rows n (drop 4 bs)) (c .args .into .now) n counted (c .if-count-into .left))
-          ∙ c .in-Continue-count .ensures tt .exact (rows n (drop 4 bs)) (granted .0);
+          ap encoded (ap (take n) after ∙ take-put (stored-rows n (drop 4 bs)) (c .args .into .now) n counted (c .if-count-into .left))
+          ∙ c .in-Continue-count .ensures tt .exact (stored-rows n (drop 4 bs)) (granted .0);
     }

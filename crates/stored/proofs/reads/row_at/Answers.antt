@@ -1,7 +1,7 @@
 use mathlib.Core.Path.{_≡_, sym, _∙_}
 use native.Mathlib.Omega.{arith}
 use mir.Syntax.{w16, w32}
-use mir.Val.{toZ, ofZ, SFits}
+use mir.Val.{SFits}
 use Rattle.std.proofs.shelf.Signed.{toZ-ofZ}
 use Rattle.stored.specs.Words.{word-at, from-complement}
 use Rattle.stored.proofs.Pairs.{complement-is}
