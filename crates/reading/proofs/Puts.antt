@@ -4,7 +4,7 @@ use mathlib.Core.Path.{_≡_, refl, sym, ap, _∙_}
 use native.Mathlib.Nat.{add-zero}
 use native.Mathlib.Numerals.{add-one}
 use native.Mathlib.Omega.{arith}
-use Prim.Native.Nat.{ℕ, min, _+_, _-_, _<_, _≤_, _^_}
+use Prim.Native.Nat.{ℕ, _+_, _<_, _≤_}
 use lib.Dec.{leb}
 use lib.ListN.{length, getD, set, take, drop}
 use lib.Seq.{paste}
@@ -33,9 +33,6 @@ put-all out n xs m h e = paste-all out n xs m e ∙ ap (λ k. take n out ++ (xs 
 
 pub grown-fits : (count n room : ℕ) → count + n ≤ room → Ok (count + n) ≡ grown count n room
 grown-fits count n room h = sym (cond-true (leb (count + n) room) _ _ (le-leb _ _ h))
-
-pub grown-over : (count n room m : ℕ) → room < count + n → m ≡ min (count + n) (2 ^ 64 - 1) → Err (TooLittleRoom m) ≡ grown count n room
-grown-over count n room m h e = ap (λ k. Err (TooLittleRoom k)) e ∙ sym (cond-false (leb (count + n) room) _ _ (lt-leb _ _ h))
 
 pub fitted-fits : (n room : ℕ) → n ≤ room → Ok n ≡ fitted n room
 fitted-fits n room h = sym (cond-true (leb n room) _ _ (le-leb _ _ h))
