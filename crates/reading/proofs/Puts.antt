@@ -79,21 +79,19 @@ put-two out i x y h =
     ∙ put-then out i (x ∷ []) (y ∷ []) (i + 1) refl (omega arith)
 
 module _ {X : Type 0} (given : Result (List X) Refusal) (xs : List X) (granted : given ≡ Ok xs) (n : ℕ) (counted : n ≡ length xs) (out : List X) where
-  -- what was granted and fits is counted and put to the front
-  pub delivered-fits : n ≤ length out → Ok n ≡ delivered given out
-  delivered-fits h =
-      fitted-fits n (length out) h ∙ ap (λ k. fitted k (length out)) counted ∙ sym (ap (λ d. delivered d out) granted)
+  counted-room : delivered given out ≡ fitted n (length out)
+  counted-room = ap (λ d. delivered d out) granted ∙ ap (λ k. fitted k (length out)) (sym counted)
 
-  pub filled-is : put-from 0 xs out ≡ filled given out
-  filled-is = sym (ap (λ d. filled d out) granted)
+  put-front : filled given out ≡ put-from 0 xs out
+  put-front = ap (λ d. filled d out) granted
+
+  -- what was granted and fits is counted and put to the front
+  pub delivery-fits : n ≤ length out → (Ok n ≡ delivered given out) × (put-from 0 xs out ≡ filled given out)
+  delivery-fits h = (fitted-fits n (length out) h ∙ sym counted-room, sym put-front)
 
   -- what was granted and does not fit is declined and changes nothing
-  pub delivered-over : length out < n → Err (TooLittleRoom n) ≡ delivered given out
-  delivered-over h =
-      fitted-over n (length out) h ∙ ap (λ k. fitted k (length out)) counted ∙ sym (ap (λ d. delivered d out) granted)
-
-  pub filled-over : length out < n → out ≡ filled given out
-  filled-over h = sym (put-over 0 xs out (omega arith)) ∙ filled-is
+  pub delivery-over : length out < n → (Err (TooLittleRoom n) ≡ delivered given out) × (out ≡ filled given out)
+  delivery-over h = (fitted-over n (length out) h ∙ sym counted-room, sym (put-front ∙ put-over 0 xs out (omega arith)))
 
 -- what was put to the front is found there
 pub take-put : {X : Type 0} (xs out : List X) (n : ℕ) → n ≡ length xs → n ≤ length out → take n (put-from 0 xs out) ≡ xs

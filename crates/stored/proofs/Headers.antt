@@ -40,7 +40,7 @@ module _ (bs : List ℕ) (n : ℕ) (first : n ≡ word-at bs 0) (second : n ≡ 
   rest-long : length (drop 4 bs) ≡ 4 * n
   rest-long = simp length-drop (omega arith)
 
-  pub decoded-is : decoded bs ≡ all-admitted 1 (stored-rows n (drop 4 bs))
+  decoded-is : decoded bs ≡ all-admitted 1 (stored-rows n (drop 4 bs))
   decoded-is =
       ap decoded (four-parts bs (omega arith))
       ∙ sized-is (word-at bs 0) (word-at bs 1) (drop 4 bs) (sym first ∙ second) (omega arith) (rest-long ∙ ap (λ k. 4 * k) first)
@@ -52,21 +52,34 @@ module _ (bs : List ℕ) (n : ℕ) (first : n ≡ word-at bs 0) (second : n ≡ 
       reads-exact (getD bs 0 0) (getD bs 1 0) (getD bs 2 0) (getD bs 3 0) n (drop 4 bs) (subst Bytes parts all) (sym first) (sym second) rest-long ∙ sym parts
 
   -- bytes that read are those that writing gives
-  pub decoded-exact : Bytes bs → (rs : List Reading) → decoded bs ≡ Ok rs → encoded rs ≡ bs
+  decoded-exact : Bytes bs → (rs : List Reading) → decoded bs ≡ Ok rs → encoded rs ≡ bs
   decoded-exact all rs h = ap encoded (all-admitted-same 1 (stored-rows n (drop 4 bs)) rs (sym decoded-is ∙ h)) ∙ rows-exact all
 
   -- the count is that of the readings
-  pub counted : (d : Result (List Reading) Refusal) → d ≡ decoded bs → then d (λ _. Ok n) ≡ then d (λ rs. Ok (length rs))
+  counted : (d : Result (List Reading) Refusal) → d ≡ decoded bs → then d (λ _. Ok n) ≡ then d (λ rs. Ok (length rs))
   counted (Err e) h = refl
   counted (Ok rs) h =
       let same = all-admitted-same 1 (stored-rows n (drop 4 bs)) rs (sym decoded-is ∙ sym h) in
       ap Ok (sym (length-rows n (drop 4 bs) rest-long) ∙ ap length (sym same))
 
   -- what is granted is the rows behind the sizes
-  pub granted-rows :
+  granted-rows :
       (d : Result (List Reading) Refusal) → d ≡ decoded bs
       → made (then d (λ _. Ok n)) (λ m. (decoded bs ≡ Ok (stored-rows m (drop 4 bs))) × (length bs ≡ 4 + 4 * m))
   granted-rows (Err e) h = tt
   granted-rows (Ok rs) h =
       let same = all-admitted-same 1 (stored-rows n (drop 4 bs)) rs (sym decoded-is ∙ sym h) in
       (sym h ∙ ap Ok same, long)
+
+  -- so much for the promises of a check that answers n where every row is admitted
+  pub checked :
+      Bytes bs → (r : Result ℕ Refusal) → r ≡ then (all-admitted 1 (stored-rows n (drop 4 bs))) (λ _. Ok n)
+      → (r ≡ then (decoded bs) (λ rs. Ok (length rs)))
+      × made r (λ m. (decoded bs ≡ Ok (stored-rows m (drop 4 bs))) × (length bs ≡ 4 + 4 * m))
+      × ((rs : List Reading) → decoded bs ≡ Ok rs → encoded rs ≡ bs)
+  checked all r h =
+      let is : r ≡ then (decoded bs) (λ _. Ok n) = h ∙ ap (λ d. then d (λ _. Ok n)) (sym decoded-is) in (
+        is ∙ counted (decoded bs) refl,
+        subst (λ q. made q (λ m. (decoded bs ≡ Ok (stored-rows m (drop 4 bs))) × (length bs ≡ 4 + 4 * m))) (sym is) (granted-rows (decoded bs) refl),
+        decoded-exact all,
+      )

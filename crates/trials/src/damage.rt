@@ -26,7 +26,7 @@ impl Tally {
     }
 }
 
-pub fn one_byte(rt: &LibcRuntime, sample: &[u8; 21]) -> io::Result<()> {
+pub(crate) fn one_byte(rt: &LibcRuntime, sample: &[u8; 21]) -> io::Result<()> {
     let mut tally = Tally {
         granted: 0,
         refused: [0; 12],

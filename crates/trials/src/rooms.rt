@@ -24,7 +24,7 @@ fn keeps(input: &[u8], output: &mut [u8], room: usize) -> bool {
     }
 }
 
-pub fn each_room(rt: &LibcRuntime, input: &[u8]) -> io::Result<()> {
+pub(crate) fn each_room(rt: &LibcRuntime, input: &[u8]) -> io::Result<()> {
     let mut kept = 0u32;
     for room in 0..65usize {
         let mut output = [FILLER; 64];

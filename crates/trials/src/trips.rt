@@ -63,7 +63,7 @@ fn returns(random: &mut Random, count: usize) -> bool {
     write(Readings::of(&back[0..count]), &mut again) == Ok(length) && again == bytes
 }
 
-pub fn there_and_back(rt: &LibcRuntime) -> io::Result<()> {
+pub(crate) fn there_and_back(rt: &LibcRuntime) -> io::Result<()> {
     let mut random = Random(1);
     let mut returned = 0u32;
     for turn in 0..205usize {
