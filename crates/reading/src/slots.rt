@@ -7,6 +7,7 @@ mod ends;
 mod fills;
 
 // The first `count` slots are the list; the rest still hold what the caller left there.
+// In the contracts, `lender` says that the slice beneath is still the one that the caller lent.
 #[derive(Drop)]
 pub struct Bounded<'a, T> {
     slots: &'a mut [T],

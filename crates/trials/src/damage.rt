@@ -1,4 +1,4 @@
-// A sample with one byte changed at a time: how often each refusal comes, and that it changes nothing.
+// A sample with one byte changed at a time: how often each refusal comes, at which places, and that it changes nothing.
 use listing::listing;
 use std::io;
 
@@ -7,6 +7,7 @@ use std::io;
 struct Tally {
     granted: u32,
     refused: [u32; 12],
+    places: usize,
     spoiled: u32,
 }
 
@@ -18,6 +19,7 @@ impl Tally {
             Err(refusal) => {
                 let number = (refusal.number() as usize).min(11);
                 self.refused[number] = self.refused[number].saturating_add(1);
+                self.places = self.places.saturating_add(refusal.place());
                 if output != [0xeeu8; 64] {
                     self.spoiled = self.spoiled.saturating_add(1);
                 }
@@ -30,6 +32,7 @@ pub(crate) fn one_byte(rt: &LibcRuntime, sample: &[u8; 21]) -> io::Result<()> {
     let mut tally = Tally {
         granted: 0,
         refused: [0; 12],
+        places: 0,
         spoiled: 0,
     };
     for at in 0..21usize {
@@ -40,10 +43,11 @@ pub(crate) fn one_byte(rt: &LibcRuntime, sample: &[u8; 21]) -> io::Result<()> {
         }
     }
     let granted = tally.granted;
+    let places = tally.places;
     let spoiled = tally.spoiled;
     println!(
         rt,
-        "one byte changed: {granted} granted, {spoiled} outputs spoiled"
+        "one byte changed: {granted} granted, places add up to {places}, {spoiled} outputs spoiled"
     )?;
     for (number, count) in tally.refused.iter().enumerate() {
         if *count > 0 {

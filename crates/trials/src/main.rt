@@ -1,12 +1,14 @@
-// Runs the listing and the stored form on bad and on random input, and prints what they answer.
+// Runs the listing and the stored form on good, bad and random input, and prints what they answer and write.
+mod counts;
 mod damage;
 mod rooms;
 mod trips;
 
+use listing::fit_listing;
 use listing::listing;
-use reading::Refusal;
 use reading::RefusalDisplay;
 use std::io;
+use std::io::Write;
 
 // L and the readings 1, 4, 2, 6, each of weight 1.
 const SAMPLE: [u8; 21] = [
@@ -33,33 +35,33 @@ const SAMPLE: [u8; 21] = [
     0,
 ];
 
-fn report(rt: &LibcRuntime, answer: Result<usize, Refusal>) -> io::Result<()> {
-    match answer {
-        Ok(count) => println!(rt, "granted {count}"),
+// Prints the listing of an input, or its refusal.
+pub(crate) fn show(rt: &LibcRuntime, input: &[u8], output: &mut [u8]) -> io::Result<()> {
+    match listing(input, output) {
+        Ok(count) => rt.stdout().write_all(&output[0..count]),
         Err(refusal) => println!(rt, "{refusal}"),
     }
 }
 
-// The listing of the first so many bytes of the sample.
+// The first so many bytes of the sample.
 fn truncated(rt: &LibcRuntime) -> io::Result<()> {
     for length in 0..SAMPLE.len() + 1 {
         let mut output = [0u8; 64];
         print!(rt, "first {length} bytes: ")?;
-        report(rt, listing(&SAMPLE[0..length], &mut output))?;
+        show(rt, &SAMPLE[0..length], &mut output)?;
     }
     Ok(())
 }
 
-// The sample with every byte for its letter.
+// The sample with every byte for its letter: prints what is granted, and counts what is refused by its byte.
 fn lettered(rt: &LibcRuntime) -> io::Result<()> {
-    let mut granted = 0u32;
     let mut refused = 0u32;
     for letter in 0..=255u8 {
         let mut output = [0u8; 64];
         let mut input = SAMPLE;
         input[0] = letter;
         match listing(&input, &mut output) {
-            Ok(_) => granted = granted.saturating_add(1),
+            Ok(_) => show(rt, &input, &mut [0u8; 64])?,
             Err(refusal) => {
                 if refusal.number() == 8 && refusal.place() == letter as usize {
                     refused = refused.saturating_add(1);
@@ -67,10 +69,7 @@ fn lettered(rt: &LibcRuntime) -> io::Result<()> {
             }
         }
     }
-    println!(
-        rt,
-        "letters: {granted} granted, {refused} refused by their byte"
-    )
+    println!(rt, "letters: {refused} refused by their byte")
 }
 
 // The sample with other sizes.
@@ -95,15 +94,33 @@ fn sized(rt: &LibcRuntime) -> io::Result<()> {
         input[3] = c;
         input[4] = d;
         print!(rt, "sizes {values} {weights}: ")?;
-        report(rt, listing(&input, &mut output))?;
+        show(rt, &input, &mut output)?;
     }
     Ok(())
+}
+
+// The answer for C, in numbers.
+fn exported(rt: &LibcRuntime, input: &[u8], output: &mut [u8]) -> io::Result<()> {
+    let answer = fit_listing(input, output);
+    let written = answer.written;
+    let place = answer.place;
+    let number = answer.number;
+    let site = answer.site;
+    println!(
+        rt,
+        "for C: written {written} place {place} number {number} site {site}"
+    )
 }
 
 fn main(rt: LibcRuntime) -> io::Result<()> {
     truncated(&rt)?;
     lettered(&rt)?;
     sized(&rt)?;
+    exported(&rt, &SAMPLE, &mut [0u8; 64])?;
+    exported(&rt, &SAMPLE, &mut [0u8; 20])?;
+    exported(&rt, b"?", &mut [0u8; 64])?;
+    exported(&rt, &SAMPLE[0..20], &mut [0u8; 64])?;
+    counts::each_count(&rt)?;
     rooms::each_room(&rt, &SAMPLE)?;
     damage::one_byte(&rt, &SAMPLE)?;
     trips::there_and_back(&rt)
