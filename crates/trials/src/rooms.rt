@@ -1,4 +1,4 @@
-// The listing into every room, from none to more than enough: what is beyond the listing stays.
+// The listing into every room, from none to more than enough: it is the same, and what is beyond it stays.
 use listing::listing;
 use reading::Refusal;
 use std::io;
@@ -14,21 +14,23 @@ fn untouched(bytes: &[u8]) -> bool {
     true
 }
 
-// Whether a listing into so much room left everything else as it was.
-fn keeps(input: &[u8], output: &mut [u8], room: usize) -> bool {
+// Whether the listing into so much room is the whole one or none, and left everything else as it was.
+fn keeps(input: &[u8], whole: &[u8], output: &mut [u8], room: usize) -> bool {
     let room = room.min(output.len());
     match listing(input, &mut output[0..room]) {
-        Ok(count) => count <= room && untouched(&output[count..]),
+        Ok(count) => count <= room && output[0..count] == whole[0..] && untouched(&output[count..]),
         Err(Refusal::TooLittleRoom { needed }) => needed > room && untouched(output),
         Err(_) => false,
     }
 }
 
 pub(crate) fn each_room(rt: &LibcRuntime, input: &[u8]) -> io::Result<()> {
+    let mut text = [FILLER; 64];
+    let length = listing(input, &mut text).unwrap_or(0).min(64);
     let mut kept = 0u32;
     for room in 0..65usize {
         let mut output = [FILLER; 64];
-        if keeps(input, &mut output, room) {
+        if keeps(input, &text[0..length], &mut output, room) {
             kept = kept.saturating_add(1);
         }
     }
