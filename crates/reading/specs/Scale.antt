@@ -21,6 +21,10 @@ limit = 1024
 abbrev pub is-level : ℤ → Bool
 is-level v = leZ (negsuc 29999) v && leZ v (pos 30000)
 
+-- a number that is a level
+abbrev pub Level : ℤ → Type 0
+Level v = is-level v ≡ true
+
 -- a weight from 1 to 1,000
 abbrev pub is-weight : ℕ → Bool
 is-weight w = leb 1 w && leb w 1000
@@ -28,6 +32,10 @@ is-weight w = leb 1 w && leb w 1000
 -- a reading whose value and weight are on the scale
 abbrev pub on-scale : Reading → Bool
 on-scale r = is-level (r .value) && is-weight (r .weight)
+
+-- a reading that is on the scale
+abbrev pub OnScale : Reading → Type 0
+OnScale r = on-scale r ≡ true
 
 -- a reading that is to have place p, or what is wrong with it: the value first
 abbrev pub admitted : Reading → ℕ → Result Reading Refusal

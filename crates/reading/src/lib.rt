@@ -16,6 +16,7 @@ pub use scale::LIMIT;
 pub use scale::Reading;
 pub use scale::ReadingDebug;
 pub use scale::ReadingPartialEq;
+pub use scale::is_level;
 pub use slots::Bounded;
 
 #[cfg(test)]

@@ -1,6 +1,6 @@
 // One reading, and the scale of values and weights.
 ghost use mathlib.Core.Path.{_≡_};
-ghost use Rattle.reading.specs.Scale.{admitted, on-scale};
+ghost use Rattle.reading.specs.Scale.{admitted, is-level, on-scale};
 use crate::refusals::Refusal;
 
 // The most readings that a profile, a stored profile or a measured list holds.
@@ -17,6 +17,13 @@ const HEAVIEST: u32 = 1_000;
 pub struct Reading {
     pub value: i32,
     pub weight: u32,
+}
+
+// Whether a number is a level: levels and values have one scale.
+pub fn is_level(number: i32) -> bool
+    ensures { λ r. ⌜ r ≡ is-level number ⌝ }
+{
+    LOWEST <= number && number <= HIGHEST
 }
 
 impl Reading {
