@@ -6,9 +6,11 @@ use crate::refusals::Refusal;
 // The most readings that a profile, a stored profile or a measured list holds.
 pub const LIMIT: usize = 1024;
 
-const LOWEST: i32 = -30_000;
+// The lowest value or level.
+pub const LOWEST: i32 = -30_000;
 
-const HIGHEST: i32 = 30_000;
+// The highest value or level.
+pub const HIGHEST: i32 = 30_000;
 
 const HEAVIEST: u32 = 1_000;
 

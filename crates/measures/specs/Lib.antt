@@ -1,0 +1,4 @@
+pub mod Values
+pub mod Absolute
+pub mod Squared
+pub mod Largest
