@@ -3,4 +3,7 @@ pub mod Places
 pub mod Summed
 pub mod Loops
 pub mod Extremes
+pub mod Weights
 pub mod Medians
+pub mod Quotients
+pub mod Means

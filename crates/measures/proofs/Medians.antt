@@ -24,6 +24,7 @@ use Rattle.measures.specs.Values.{distance, smallest, values, whole-weight}
 use Rattle.measures.proofs.Convex.{Bends, First}
 use Rattle.measures.proofs.Extremes.{smallest-bounds, smallest-holds}
 use Rattle.measures.proofs.Places.{at, placed, top}
+use Rattle.measures.proofs.Weights.{whole-positive}
 use Rattle.measures.proofs.Summed.{Cost-bends, Cost-shifts, Prefers-first, placed-cost}
 
 counted-below : (r : Reading) (v : ℤ) → r .value ≤ℤ v → counted r v ≡ r .weight
@@ -126,10 +127,6 @@ up-to-rises [] u v h = omega arith
 up-to-rises (r ∷ rs) u v h =
     let one = counted-rises r r u v refl h (omega (arith, ints)) in
     omega (arith, up-to-rises rs u v h, sumBy-cons (λ s. counted s u) r rs, sumBy-cons (λ s. counted s v) r rs)
-
-pub whole-positive : (rs : List Reading) → All OnScale rs → 0 < length rs → 0 < whole-weight rs
-whole-positive [] all some = absurd (omega arith)
-whole-positive (r ∷ rs) all some = omega (arith, weight-bounds r (all .0), sumBy-cons (λ s. s .weight) r rs)
 
 -- twice the weight of all values up to a level reaches the whole weight there, and at no lower level
 pub record Median (rs : List Reading) (p : ℕ) : Type 0 where

@@ -3,7 +3,7 @@ use mathlib.Core.Bool.{cond}
 use mathlib.Core.List.{List, [], _∷_, map}
 use Prim.Native.Nat.{ℕ, _*_}
 use lib.Dec.{leb}
-use lib.IntN.{ℤ, pos, sucℤ, natAbs, _-ℤ_}
+use lib.IntN.{ℤ, pos, natAbs, _+ℤ_, _-ℤ_}
 use lib.Signed.{shrZ}
 use Rattle.std.specs.Numbers.{maxZ, minZ, remEuclid}
 use Rattle.std.specs.shelf.Lists.{folded, sumBy}
@@ -43,4 +43,4 @@ left-over z n = natAbs (remEuclid z (pos n))
 
 -- the whole number nearest to z / n; a half goes to the lower one
 abbrev pub nearest : ℤ → ℕ → ℤ
-nearest z n = cond (leb (2 * left-over z n) n) (floored z n) (sucℤ (floored z n))
+nearest z n = cond (leb (2 * left-over z n) n) (floored z n) (floored z n +ℤ pos 1)

@@ -1,7 +1,6 @@
 // The measure A: weighted absolute distances add up, and the weighted median is preferred.
 ghost use mathlib.Core.Path.{_≡_};
 ghost use Prim.Native.Nat.{_+_, _<_, _≤_};
-ghost use lib.IntN.{pos, _-ℤ_};
 ghost use lib.ListN.{length};
 ghost use Rattle.measures.specs.Absolute.{absolute-cost, absolute-departs, absolute-prefers, counted};
 ghost use Rattle.reading.specs.Scale.{limit};
@@ -9,10 +8,10 @@ use crate::costs::Cost;
 use crate::costs::added;
 use crate::costs::added_combination;
 use crate::costs::added_departure;
+use crate::levels::level_at;
 use isotonic::Measure;
 use reading::HIGHEST;
 use reading::LIMIT;
-use reading::LOWEST;
 use reading::Reading;
 use reading::Readings;
 
@@ -39,14 +38,6 @@ impl Cost for UpTo as UpToCost {
     fn cost(self, row: Reading, level: i32) -> u64 {
         if row.value <= level { u64::from(row.weight) } else { 0 }
     }
-}
-
-// The level at a place, counted from the lowest level on.
-fn level_at(place: u32) -> i32
-    requires { ⌜ place ≤ 60000 ⌝ }
-    ensures { λ r. ⌜ r ≡ pos place -ℤ pos 30000 ⌝ }
-{
-    LOWEST + place as i32
 }
 
 // The smallest level with at least half of the weight up to it, by bisecting the levels.

@@ -1,6 +1,10 @@
 // The three measures: A adds weighted distances, S adds weighted squares, L takes the largest distance.
 mod absolute;
 mod costs;
+mod levels;
+mod squared;
 
 pub use absolute::Absolute;
 pub use absolute::AbsoluteMeasure;
+pub use squared::Squared;
+pub use squared::SquaredMeasure;
