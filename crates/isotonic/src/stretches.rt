@@ -11,7 +11,13 @@ use reading::Readings;
 
 // What the readings at places `first` to `last` depart by at a level. Whatever the measure, that is
 // no more than a single reading can depart by, times their number.
-pub fn stretch_departure<M: Measure>(measure: M, list: Readings<'_>, first: usize, last: usize, level: i32) -> Option<u64>
+pub fn stretch_departure<M: Measure>(
+    measure: M,
+    list: Readings<'_>,
+    first: usize,
+    last: usize,
+    level: i32,
+) -> Option<u64>
     ensures value { λ r. ⌜ r ≡ departure-answer (departs measure) (stretch (now (list .entry .rows)) first last) level ⌝ }
     ensures within { λ r. ⌜ ((d : ℕ) → r ≡ Some d → d ≤ one-most * length (stretch (now (list .entry .rows)) first last)) ⌝ }
 {

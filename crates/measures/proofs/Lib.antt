@@ -7,3 +7,5 @@ pub mod Weights
 pub mod Medians
 pub mod Quotients
 pub mod Means
+pub mod Middles
+pub mod Signs

@@ -128,6 +128,7 @@ nearest-mean z weight sum some shifted =
     below q e low =
         let parts = ap (λ j. weight * j) e in
         record { reached = omega arith; missed = λ n h. omega (arith, mul-le-mul-left weight h) }
+
     above : (q : ℕ) → sum / weight ≡ q → weight < 2 * (sum % weight) → Mean sum weight (suc q)
     above q e high =
         let parts = ap (λ j. weight * j) e in
@@ -175,10 +176,12 @@ module _ (rs : List Reading) (all : All OnScale rs) (some : 0 < length rs) where
 pub squared-first : Prefers-first squared-cost squared-prefers
 squared-first rs all some =
     let m = prefers-mean rs all some in
-    let mean = m .2 in
-    (m .0, m .1,
-    record {
-      within = mean-within rs all some (m .0) mean;
-      stays = λ h. omega (arith, total-step rs (m .0) all, mean .reached);
-      falls = λ n h. omega (arith, total-step rs n all, mean .missed n h)
-    })
+    let mean = m .2 in (
+      m .0,
+      m .1,
+      record {
+        within = mean-within rs all some (m .0) mean;
+        stays = λ h. omega (arith, total-step rs (m .0) all, mean .reached);
+        falls = λ n h. omega (arith, total-step rs n all, mean .missed n h);
+      },
+    )

@@ -103,9 +103,11 @@ up-to-step (r ∷ rs) v z p passes all =
         (b : Bool) → All (λ y. z ≤ℤ y) (cond b (r .value ∷ kept-by p (values rs)) (kept-by p (values rs))) → All (λ y. z ≤ℤ y) (kept-by p (values rs))
     kept-rest true h = h .1
     kept-rest false h = h
+
     kept-first : (b : Bool) → b ≡ true → All (λ y. z ≤ℤ y) (cond b (r .value ∷ kept-by p (values rs)) (kept-by p (values rs))) → z ≤ℤ r .value
     kept-first true e h = h .0
     kept-first false e h = absurd (both-ways false refl e)
+
     more : weight-up-to rs v ≡ weight-up-to rs (v -ℤ pos 1) → counted r v ≡ counted r (v -ℤ pos 1) → weight-up-to (r ∷ rs) v ≡ weight-up-to (r ∷ rs) (v -ℤ pos 1)
     more e f = omega (arith, sumBy-cons (λ s. counted s v) r rs, sumBy-cons (λ s. counted s (v -ℤ pos 1)) r rs)
 
@@ -180,7 +182,7 @@ module _ (rs : List Reading) (all : All OnScale rs) (some : 0 < length rs) where
                   | inr more ↦
                       let low = bounds-halves (absolute-prefers rs) (smallest-bounds (kept-by (reaches-half rs) (values rs))) n more in
                       absurd (omega (arith, ints, low, e))
-                ]
+                ];
           }
 
 one-median : (rs : List Reading) (p q : ℕ) → Median rs p → Median rs q → p ≡ q
@@ -200,10 +202,12 @@ median-preferred rs p all some median =
 pub absolute-first : Prefers-first absolute-cost absolute-prefers
 absolute-first rs all some =
     let m = prefers-median rs all some in
-    let median = m .2 in
-    (m .0, m .1,
-    record {
-      within = median .within;
-      stays = λ h. omega (arith, total-step rs (m .0), median .reached);
-      falls = λ n h. omega (arith, total-step rs n, median .missed n h)
-    })
+    let median = m .2 in (
+      m .0,
+      m .1,
+      record {
+        within = median .within;
+        stays = λ h. omega (arith, total-step rs (m .0), median .reached);
+        falls = λ n h. omega (arith, total-step rs n, median .missed n h);
+      },
+    )

@@ -1,4 +1,5 @@
 -- Levels counted from the lowest, as the places 0 to 60,000.
+use mathlib.Core.Logic.{inl, inr}
 use mathlib.Core.Path.{_≡_}
 use native.Mathlib.Omega.{arith}
 use Prim.Native.Nat.{ℕ, suc, _+_, _-_, _<_, _≤_}
@@ -6,6 +7,7 @@ use lib.IntN.{ℤ, pos, negsuc, natAbs, _+ℤ_, _-ℤ_}
 use lib.Signed.{_≤ℤ_, _<ℤ_}
 use Rattle.std.proofs.shelf.Signed.{ints}
 use Rattle.reading.specs.Scale.{Level}
+use Rattle.isotonic.specs.Laws.{Lies-between}
 use Rattle.isotonic.proofs.Scales.{level-bounds, level-from}
 use Rattle.measures.specs.Values.{distance}
 
@@ -29,12 +31,7 @@ at-level n h = level-from (at n) (omega (arith, ints)) (omega (arith, ints))
 pub at-le : (m n : ℕ) → m ≤ n → at m ≤ℤ at n
 at-le m n h = omega (arith, ints)
 
-pub le-at : (m n : ℕ) → at m ≤ℤ at n → m ≤ n
-le-at m n h = omega (arith, ints)
-
-pub lt-at : (m n : ℕ) → at m <ℤ at n → m < n
-lt-at m n h = omega (arith, ints)
-
--- the distance of two levels is that of their places
-pub distance-at : (m n : ℕ) → distance (at m) (at n) ≡ (m - n) + (n - m)
-distance-at m n = omega (arith, ints)
+-- a number between two levels is a level
+pub between-levels : (p u v : ℤ) → Level p → Level v → Lies-between p u v → Level u
+between-levels p u v lp lv (inl h) = level-from u (omega (arith, ints, level-bounds p lp, h .0)) (omega (arith, ints, level-bounds v lv, h .1))
+between-levels p u v lp lv (inr h) = level-from u (omega (arith, ints, level-bounds v lv, h .0)) (omega (arith, ints, level-bounds p lp, h .1))

@@ -17,10 +17,9 @@ use Rattle.reading.specs.declared.scale.Reading.{Reading}
 use Rattle.reading.specs.Scale.{Level, OnScale}
 use Rattle.isotonic.specs.Bounds.{one-most}
 use Rattle.isotonic.specs.Laws.{Combines-in-any-order, Empty-departs-by-zero, Joined-departures-combine, Joined-prefers-between, Lies-between, Nearer-departs-no-more, Nowhere-lower, One-departs-within, Raised-prefers-no-lower}
-use Rattle.isotonic.proofs.Scales.{level-bounds, level-from}
 use Rattle.measures.specs.Values.{total}
 use Rattle.measures.proofs.Convex.{Bends, First, nearer-above, nearer-below, no-earlier, not-after-both, not-before-both}
-use Rattle.measures.proofs.Places.{at, at-le, at-level, le-at, lt-at, placed, top}
+use Rattle.measures.proofs.Places.{at, at-le, at-level, between-levels, placed, top}
 
 -- adding is a way to combine
 pub adding-combines : Combines-in-any-order (λ x y. x + y)
@@ -30,7 +29,7 @@ adding-combines =
       commutative = add-comm;
       zero-adds-nothing = zero-add;
       monotone = λ x y z h. omega arith;
-      at-most-sum = λ x y. omega arith
+      at-most-sum = λ x y. omega arith;
     }
 
 -- the cost of a list, by places
@@ -52,12 +51,7 @@ abbrev pub Prefers-first : (Reading → ℤ → ℕ) → (List Reading → ℤ) 
 Prefers-first cost pref =
     (rs : List Reading) → All OnScale rs → 0 < length rs → (p : ℕ) × (pref rs ≡ at p) × First (placed-cost cost rs) top p
 
--- a number between two levels is a level
-between-levels : (p u v : ℤ) → Level p → Level v → Lies-between p u v → Level u
-between-levels p u v lp lv (inl h) = level-from u (omega (arith, ints, level-bounds p lp, h .0)) (omega (arith, ints, level-bounds v lv, h .1))
-between-levels p u v lp lv (inr h) = level-from u (omega (arith, ints, level-bounds v lv, h .0)) (omega (arith, ints, level-bounds p lp, h .1))
-
-as-many : (xs ys : List Reading) → Nowhere-lower xs ys → length xs ≡ length ys
+pub as-many : (xs ys : List Reading) → Nowhere-lower xs ys → length xs ≡ length ys
 as-many [] [] lower = refl
 as-many [] (y ∷ ys) lower = absurd lower
 as-many (x ∷ xs) [] lower = absurd lower
@@ -107,13 +101,14 @@ module _ (cost : Reading → ℤ → ℕ) (pref : List Reading → ℤ) (bends :
 
   pub sum-nearer : Nearer-departs-no-more (total cost) pref
   sum-nearer xs all some =
-      let b = first xs all some in
-      (subst Level (sym (b .1)) (at-level (b .0) (b .2 .within)),
-      λ u v level lies.
-      let from-p = subst (λ z. Lies-between z u v) (b .1) lies in
-      let at-v = placed v level in
-      let at-u = placed u (between-levels (at (b .0)) u v (at-level (b .0) (b .2 .within)) level from-p) in
-      nearer-placed xs (b .0) (at-u .0) (at-v .0) u v all (b .2) (at-v .1) (at-u .2) (at-v .2) from-p)
+      let b = first xs all some in (
+        subst Level (sym (b .1)) (at-level (b .0) (b .2 .within)),
+        λ u v level lies.
+            let from-p = subst (λ z. Lies-between z u v) (b .1) lies in
+            let at-v = placed v level in
+            let at-u = placed u (between-levels (at (b .0)) u v (at-level (b .0) (b .2 .within)) level from-p) in
+            nearer-placed xs (b .0) (at-u .0) (at-v .0) u v all (b .2) (at-v .1) (at-u .2) (at-v .2) from-p,
+      )
 
   pub sum-between : Joined-prefers-between pref
   sum-between xs ys all-x all-y some-x some-y =
@@ -122,15 +117,16 @@ module _ (cost : Reading → ℤ → ℕ) (pref : List Reading → ℤ) (bends :
       let j = first (xs ++ ys) (all-append OnScale xs ys all-x all-y) (omega (arith, length-append xs ys)) in
       let sum : (n : ℕ) → placed-cost cost (xs ++ ys) n ≡ placed-cost cost xs n + placed-cost cost ys n = λ n. sumBy-append (λ r. cost r (at n)) xs ys in
       let bx = total-bends cost bends xs all-x in
-      let by = total-bends cost bends ys all-y in
-      (λ a b.
-      not-before-both (placed-cost cost xs) (placed-cost cost ys) (placed-cost cost (xs ++ ys)) top (x .0) (y .0) (j .0) sum bx by (x .2) (y .2) (j .2)
-      (omega (arith, ints, x .1, j .1, a))
-      (omega (arith, ints, y .1, j .1, b)),
-      λ a b.
-      not-after-both (placed-cost cost xs) (placed-cost cost ys) (placed-cost cost (xs ++ ys)) top (x .0) (y .0) (j .0) sum bx by (x .2) (y .2) (j .2)
-      (omega (arith, ints, x .1, j .1, a))
-      (omega (arith, ints, y .1, j .1, b)))
+      let by = total-bends cost bends ys all-y in (
+        λ a b.
+            not-before-both (placed-cost cost xs) (placed-cost cost ys) (placed-cost cost (xs ++ ys)) top (x .0) (y .0) (j .0) sum bx by (x .2) (y .2) (j .2)
+            (omega (arith, ints, x .1, j .1, a))
+            (omega (arith, ints, y .1, j .1, b)),
+        λ a b.
+            not-after-both (placed-cost cost xs) (placed-cost cost ys) (placed-cost cost (xs ++ ys)) top (x .0) (y .0) (j .0) sum bx by (x .2) (y .2) (j .2)
+            (omega (arith, ints, x .1, j .1, a))
+            (omega (arith, ints, y .1, j .1, b)),
+      )
 
   pub sum-raised : Cost-shifts cost → Raised-prefers-no-lower pref
   sum-raised shifts xs ys all-x all-y some lower =

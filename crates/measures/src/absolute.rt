@@ -8,6 +8,7 @@ use crate::costs::Cost;
 use crate::costs::added;
 use crate::costs::added_combination;
 use crate::costs::added_departure;
+use crate::levels::distance_from;
 use crate::levels::level_at;
 use isotonic::Measure;
 use reading::HIGHEST;
@@ -24,7 +25,7 @@ impl Cost for Absolute as AbsoluteCost {
     ghost costs = { λ _. absolute-cost };
 
     fn cost(self, row: Reading, level: i32) -> u64 {
-        u64::from(row.weight) * u64::from(row.value.abs_diff(level))
+        u64::from(row.weight) * distance_from(row, level)
     }
 }
 
@@ -36,7 +37,11 @@ impl Cost for UpTo as UpToCost {
     ghost costs = { λ _. counted };
 
     fn cost(self, row: Reading, level: i32) -> u64 {
-        if row.value <= level { u64::from(row.weight) } else { 0 }
+        if row.value <= level {
+            u64::from(row.weight)
+        } else {
+            0
+        }
     }
 }
 

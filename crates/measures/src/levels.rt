@@ -1,8 +1,10 @@
-// Levels counted from the lowest on.
+// Levels counted from the lowest on, and distances from a level.
 ghost use mathlib.Core.Path.{_≡_};
 ghost use Prim.Native.Nat.{_≤_};
 ghost use lib.IntN.{pos, _-ℤ_};
+ghost use Rattle.measures.specs.Values.{distance};
 use reading::LOWEST;
+use reading::Reading;
 
 // The level that is so many above the lowest.
 pub(crate) fn level_at(place: u64) -> i32
@@ -10,4 +12,11 @@ pub(crate) fn level_at(place: u64) -> i32
     ensures { λ r. ⌜ r ≡ pos place -ℤ pos 30000 ⌝ }
 {
     LOWEST + place as i32
+}
+
+// |value - level|.
+pub(crate) fn distance_from(row: Reading, level: i32) -> u64
+    ensures { λ r. ⌜ r ≡ distance (row .value) level ⌝ }
+{
+    u64::from(row.value.abs_diff(level))
 }

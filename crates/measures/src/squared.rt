@@ -8,6 +8,7 @@ ghost use Rattle.reading.specs.Scale.{OnScale, limit};
 use crate::costs::Cost;
 use crate::costs::added_combination;
 use crate::costs::added_departure;
+use crate::levels::distance_from;
 use crate::levels::level_at;
 use isotonic::Measure;
 use reading::LIMIT;
@@ -24,8 +25,8 @@ impl Cost for Squared as SquaredCost {
     ghost costs = { λ _. squared-cost };
 
     fn cost(self, row: Reading, level: i32) -> u64 {
-        let distance = u64::from(row.value.abs_diff(level));
-        u64::from(row.weight) * (distance * distance)
+        let far = distance_from(row, level);
+        u64::from(row.weight) * (far * far)
     }
 }
 
@@ -42,7 +43,7 @@ fn weighted_place(row: Reading) -> u64
     requires { ⌜ OnScale row ⌝ }
     ensures { λ r. ⌜ r ≡ row .weight * place-of row ⌝ }
 {
-    u64::from(row.weight) * u64::from(row.value.abs_diff(LOWEST))
+    u64::from(row.weight) * distance_from(row, LOWEST)
 }
 
 fn weigh(list: Readings<'_>) -> Weighed

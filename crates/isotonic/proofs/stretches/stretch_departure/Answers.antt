@@ -24,5 +24,5 @@ returns g c =
           λ d e.
           answer-within dep (g .M·Measure .combined m) (law .empty m) (law .joined m) (law .combining m) (law .bounded m) part (c .args .level) d
           (all-scaled part (subst Scaled (c .stretch .ensures) (c .stretch .result .scaled)))
-          (sym value ∙ e)
+          (sym value ∙ e);
     }

@@ -1,0 +1,30 @@
+use mathlib.Core.Path.{sym, ap, subst, _∙_}
+use lib.IntN.{_+ℤ_}
+use lib.Signed.{shrZ}
+use mir.Syntax.{w32}
+use mir.Val.{SFits}
+use Rattle.isotonic.proofs.Scales.{all-scaled}
+use Rattle.measures.specs.Values.{smallest, values}
+use Rattle.measures.proofs.Middles.{span-levels}
+use Rattle.measures.proofs.Signs.{half-back, sum-back, sum-fits}
+use Rattle.measures.proofs.largest.middle.Needs as need
+
+pub add-result : need.add-result
+add-result c =
+    let rows = c .args .list .rows .now in
+    let told = c .span-of-low .ensures in
+    let low = c .span-of-low .result .low in
+    let high = c .span-of-low .result .high in
+    let levels = span-levels rows (all-scaled rows (c .args .list .scaled)) (c .pre) low high (told .low) (told .high) in
+    subst (SFits w32) (sym (sum-back low high (levels .0) (levels .1))) (sum-fits low high (levels .0) (levels .1))
+
+pub returns : need.returns
+returns c =
+    let rows = c .args .list .rows .now in
+    let told = c .span-of-low .ensures in
+    let low = c .span-of-low .result .low in
+    let high = c .span-of-low .result .high in
+    let levels = span-levels rows (all-scaled rows (c .args .list .scaled)) (c .pre) low high (told .low) (told .high) in
+    half-back low high (levels .0) (levels .1)
+    ∙ ap (λ a. shrZ (a +ℤ high) 2) (told .low)
+    ∙ ap (λ b. shrZ (smallest (values rows) +ℤ b) 2) (told .high)

@@ -1,0 +1,90 @@
+// The measure L: the largest distance counts, weights are not read, and the middle of the values is preferred.
+ghost use mathlib.Core.Path.{_≡_};
+ghost use Prim.Native.Nat.{max, _<_};
+ghost use lib.ListN.{length};
+ghost use Rattle.measures.specs.Largest.{largest-departs, largest-prefers};
+ghost use Rattle.measures.specs.Values.{largest, smallest, values};
+use crate::levels::distance_from;
+use isotonic::COMBINED_MOST;
+use isotonic::Measure;
+use reading::HIGHEST;
+use reading::LIMIT;
+use reading::LOWEST;
+use reading::Readings;
+use reading::is_level;
+
+// The measure L.
+#[derive(Clone, Copy)]
+pub struct Largest;
+
+// The largest |value - level|; 0 for no readings.
+fn farthest(list: Readings<'_>, level: i32) -> u64
+    ensures { λ r. ⌜ r ≡ largest-departs (now (list .entry .rows)) level ⌝ }
+{
+    let rows = list.rows();
+    let mut most: u64 = 0;
+    for row in rows {
+        most = most.max(distance_from(*row, level));
+    }
+    most
+}
+
+// The smallest and the largest value.
+#[derive(Clone, Copy)]
+struct Span {
+    low: i32,
+    high: i32,
+}
+
+fn span_of(list: Readings<'_>) -> Span
+    requires { ⌜ 0 < length (now (list .rows)) ⌝ }
+    ensures low { λ r. ⌜ r .low ≡ smallest (values (now (list .entry .rows))) ⌝ }
+    ensures high { λ r. ⌜ r .high ≡ largest (values (now (list .entry .rows))) ⌝ }
+{
+    let rows = list.rows();
+    let mut low = HIGHEST;
+    let mut high = LOWEST;
+    for row in rows {
+        low = low.min(row.value);
+        high = high.max(row.value);
+    }
+    Span { low, high }
+}
+
+// The largest whole number not above half the sum of the two ends, also below zero.
+fn middle(list: Readings<'_>) -> i32
+    requires { ⌜ 0 < length (now (list .rows)) ⌝ }
+    ensures { λ r. ⌜ r ≡ largest-prefers (now (list .entry .rows)) ⌝ }
+{
+    let Span { low, high } = span_of(list);
+    (low + high) >> 1
+}
+
+pub impl Measure for Largest as LargestMeasure {
+    ghost departs = { λ _. largest-departs };
+
+    ghost combined = { λ _ x y. max x y };
+
+    ghost prefers = { λ _. largest-prefers };
+
+    fn departure(self, list: Readings<'_>, level: i32) -> Option<u64> {
+        if list.len() > LIMIT || !is_level(level) {
+            return None;
+        }
+        Some(farthest(list, level))
+    }
+
+    fn combination(self, first: u64, second: u64) -> Option<u64> {
+        if first > COMBINED_MOST || second > COMBINED_MOST {
+            return None;
+        }
+        Some(first.max(second))
+    }
+
+    fn preferred(self, list: Readings<'_>) -> Option<i32> {
+        if list.len() == 0 || list.len() > LIMIT {
+            return None;
+        }
+        Some(middle(list))
+    }
+}
