@@ -2,12 +2,14 @@
 ghost use mathlib.Core.Path.{_≡_};
 ghost use Prim.Native.Nat.{_+_, _<_, _≤_};
 ghost use lib.ListN.{length};
+ghost use Rattle.isotonic.specs.Answers.{combination-answer, departure-answer, preferred-answer};
 ghost use Rattle.measures.specs.Absolute.{absolute-cost, absolute-departs, absolute-prefers, counted};
 ghost use Rattle.reading.specs.Scale.{limit};
 use crate::costs::Cost;
 use crate::costs::added;
 use crate::costs::added_combination;
 use crate::costs::added_departure;
+use crate::levels::LAST_PLACE;
 use crate::levels::distance_from;
 use crate::levels::level_at;
 use isotonic::Measure;
@@ -53,7 +55,7 @@ fn median(list: Readings<'_>) -> i32
 {
     let whole = added(UpTo, list, HIGHEST);
     let mut low = 0;
-    let mut high = 60_000;
+    let mut high = LAST_PLACE;
     while low < high {
         let middle = low + (high - low) / 2;
         if 2 * added(UpTo, list, level_at(middle)) >= whole {
@@ -72,15 +74,21 @@ pub impl Measure for Absolute as AbsoluteMeasure {
 
     ghost prefers = { λ _. absolute-prefers };
 
-    fn departure(self, list: Readings<'_>, level: i32) -> Option<u64> {
+    fn departure(self, list: Readings<'_>, level: i32) -> Option<u64>
+        ensures { λ r. ⌜ r ≡ departure-answer absolute-departs (now (list .entry .rows)) level ⌝ }
+    {
         added_departure(self, list, level)
     }
 
-    fn combination(self, first: u64, second: u64) -> Option<u64> {
+    fn combination(self, first: u64, second: u64) -> Option<u64>
+        ensures { λ r. ⌜ r ≡ combination-answer (λ x y. x + y) first second ⌝ }
+    {
         added_combination(first, second)
     }
 
-    fn preferred(self, list: Readings<'_>) -> Option<i32> {
+    fn preferred(self, list: Readings<'_>) -> Option<i32>
+        ensures { λ r. ⌜ r ≡ preferred-answer absolute-prefers (now (list .entry .rows)) ⌝ }
+    {
         if list.len() == 0 || list.len() > LIMIT {
             return None;
         }

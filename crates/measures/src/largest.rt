@@ -2,6 +2,7 @@
 ghost use mathlib.Core.Path.{_≡_};
 ghost use Prim.Native.Nat.{max, _<_};
 ghost use lib.ListN.{length};
+ghost use Rattle.isotonic.specs.Answers.{combination-answer, departure-answer, preferred-answer};
 ghost use Rattle.measures.specs.Largest.{largest-departs, largest-prefers};
 ghost use Rattle.measures.specs.Values.{largest, smallest, values};
 use crate::levels::distance_from;
@@ -67,21 +68,27 @@ pub impl Measure for Largest as LargestMeasure {
 
     ghost prefers = { λ _. largest-prefers };
 
-    fn departure(self, list: Readings<'_>, level: i32) -> Option<u64> {
+    fn departure(self, list: Readings<'_>, level: i32) -> Option<u64>
+        ensures { λ r. ⌜ r ≡ departure-answer largest-departs (now (list .entry .rows)) level ⌝ }
+    {
         if list.len() > LIMIT || !is_level(level) {
             return None;
         }
         Some(farthest(list, level))
     }
 
-    fn combination(self, first: u64, second: u64) -> Option<u64> {
+    fn combination(self, first: u64, second: u64) -> Option<u64>
+        ensures { λ r. ⌜ r ≡ combination-answer (λ x y. max x y) first second ⌝ }
+    {
         if first > COMBINED_MOST || second > COMBINED_MOST {
             return None;
         }
         Some(first.max(second))
     }
 
-    fn preferred(self, list: Readings<'_>) -> Option<i32> {
+    fn preferred(self, list: Readings<'_>) -> Option<i32>
+        ensures { λ r. ⌜ r ≡ preferred-answer largest-prefers (now (list .entry .rows)) ⌝ }
+    {
         if list.len() == 0 || list.len() > LIMIT {
             return None;
         }

@@ -3,8 +3,12 @@ ghost use mathlib.Core.Path.{_≡_};
 ghost use Prim.Native.Nat.{_≤_};
 ghost use lib.IntN.{pos, _-ℤ_};
 ghost use Rattle.measures.specs.Values.{distance};
+use reading::HIGHEST;
 use reading::LOWEST;
 use reading::Reading;
+
+// The place of the highest level.
+pub(crate) const LAST_PLACE: u64 = (HIGHEST - LOWEST) as u64;
 
 // The level that is so many above the lowest.
 pub(crate) fn level_at(place: u64) -> i32

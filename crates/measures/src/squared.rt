@@ -2,6 +2,7 @@
 ghost use mathlib.Core.Path.{_≡_};
 ghost use Prim.Native.Nat.{_+_, _*_, _<_, _≤_};
 ghost use lib.ListN.{length};
+ghost use Rattle.isotonic.specs.Answers.{combination-answer, departure-answer, preferred-answer};
 ghost use Rattle.measures.specs.Squared.{place-of, squared-cost, squared-departs, squared-prefers, weighted-places};
 ghost use Rattle.measures.specs.Values.{whole-weight};
 ghost use Rattle.reading.specs.Scale.{OnScale, limit};
@@ -78,15 +79,21 @@ pub impl Measure for Squared as SquaredMeasure {
 
     ghost prefers = { λ _. squared-prefers };
 
-    fn departure(self, list: Readings<'_>, level: i32) -> Option<u64> {
+    fn departure(self, list: Readings<'_>, level: i32) -> Option<u64>
+        ensures { λ r. ⌜ r ≡ departure-answer squared-departs (now (list .entry .rows)) level ⌝ }
+    {
         added_departure(self, list, level)
     }
 
-    fn combination(self, first: u64, second: u64) -> Option<u64> {
+    fn combination(self, first: u64, second: u64) -> Option<u64>
+        ensures { λ r. ⌜ r ≡ combination-answer (λ x y. x + y) first second ⌝ }
+    {
         added_combination(first, second)
     }
 
-    fn preferred(self, list: Readings<'_>) -> Option<i32> {
+    fn preferred(self, list: Readings<'_>) -> Option<i32>
+        ensures { λ r. ⌜ r ≡ preferred-answer squared-prefers (now (list .entry .rows)) ⌝ }
+    {
         if list.len() == 0 || list.len() > LIMIT {
             return None;
         }
