@@ -1,3 +1,4 @@
 pub mod Scales
 pub mod Given
 pub mod Within
+pub mod Raised

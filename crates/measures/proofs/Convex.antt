@@ -49,6 +49,18 @@ module _ (D : ℕ → ℕ) (top p : ℕ) (bends : Bends D top) (first : First D 
   pub nearer-below : (u v : ℕ) → v ≤ u → u ≤ p → D u ≤ D v
   nearer-below u v h low = down-to (u - v) u v (omega arith) low
 
+  -- it is least there, and at no place before
+  pub first-least : (n : ℕ) → n ≤ top → (D p ≤ D n) × (D n ≡ D p → p ≤ n)
+  first-least n h =
+      elim (cases-lt n p) [
+        | inl before ↦
+            let drop = first .falls n before in
+            let rest = nearer-below (suc n) (suc n) (omega arith) before in
+            let down = nearer-below p (suc n) before (omega arith) in
+            (omega arith, λ same. omega arith)
+        | inr from ↦ (nearer-above p n (omega arith) from h, λ same. from)
+      ]
+
 -- the first least place of two costs together is neither before both nor after both
 module _ (D E F : ℕ → ℕ) (top p q m : ℕ) (both : (n : ℕ) → F n ≡ D n + E n) (bends-D : Bends D top) (bends-E : Bends E top)
     (first-D : First D top p) (first-E : First E top q) (first-F : First F top m) where

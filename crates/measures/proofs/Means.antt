@@ -4,12 +4,11 @@ use mathlib.Core.Logic.{inl, inr}
 use mathlib.Core.Path.{_≡_, refl, sym, ap, subst, _∙_}
 use native.Mathlib.Nat.{mul-le-mul, mul-le-mul-left}
 use native.Mathlib.Omega.{arith}
-use Prim.Native.Nat.{ℕ, zero, suc, _+_, _*_, _-_, _/_, _%_, _<_, _≤_}
+use Prim.Native.Nat.{ℕ, suc, _+_, _*_, _-_, _/_, _%_, _<_, _≤_}
 use borrow.Author.Differences.{down, product-is, up}
 use lib.Dec.{leb}
-use lib.IntN.{ℤ, pos, natAbs, _+ℤ_, _-ℤ_, _*ℤ_}
+use lib.IntN.{ℤ, pos, _+ℤ_}
 use lib.ListN.{length}
-use lib.Signed.{_≤ℤ_}
 use Rattle.std.proofs.shelf.Signed.{ints}
 use Rattle.std.proofs.shelf.Sums.{sumBy-cons}
 use Rattle.std.proofs.shelf.Tests.{cases-bool, cases-lt, cases-order, cond-false, cond-true, leb-false, leb-true}
@@ -20,8 +19,7 @@ use Rattle.isotonic.specs.Bounds.{one-most}
 use Rattle.isotonic.proofs.Scales.{level-bounds, value-level, weight-bounds}
 use Rattle.measures.specs.Squared.{place-of, squared-cost, squared-prefers, weighted-places, weighted-sum}
 use Rattle.measures.specs.Values.{distance, floored, left-over, nearest, whole-weight}
-use Rattle.measures.proofs.Convex.{First}
-use Rattle.measures.proofs.Places.{at, placed, top}
+use Rattle.measures.proofs.Places.{at, top}
 use Rattle.measures.proofs.Quotients.{floored-shifted, left-over-shifted}
 use Rattle.measures.proofs.Weights.{whole-positive}
 use Rattle.measures.proofs.Summed.{Cost-bends, Cost-shifts, Prefers-first, placed-cost}

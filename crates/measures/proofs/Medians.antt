@@ -6,11 +6,10 @@ use mathlib.Core.Path.{_≡_, refl, sym, ap, subst, _∙_}
 use native.Mathlib.Nat.{mul-le-mul}
 use native.Mathlib.Omega.{arith}
 use Prim.Native.Nat.{ℕ, zero, suc, _+_, _*_, _<_, _≤_}
-use lib.Dec.{leb}
 use lib.IntN.{ℤ, pos, _-ℤ_}
 use lib.ListN.{length}
 use lib.Signed.{_≤ℤ_, _<ℤ_, leZ}
-use Rattle.std.proofs.shelf.Elements.{all-kept-by, all-map, all-weaker, kept-by-passes}
+use Rattle.std.proofs.shelf.Elements.{all-kept-by, kept-by-passes}
 use Rattle.std.proofs.shelf.Signed.{ints, by-ltZ}
 use Rattle.std.proofs.shelf.Sums.{sumBy-cons}
 use Rattle.std.proofs.shelf.Tests.{both-ways, cases-lt, cases-order, cond-both, cond-false, cond-true, leb-true, le-leb}
@@ -19,11 +18,11 @@ use Rattle.reading.specs.declared.scale.Reading.{Reading}
 use Rattle.reading.specs.Scale.{Level, OnScale}
 use Rattle.isotonic.specs.Bounds.{one-most}
 use Rattle.isotonic.proofs.Scales.{level-bounds, value-level, weight-bounds}
-use Rattle.measures.specs.Absolute.{absolute-cost, absolute-departs, absolute-prefers, counted, reaches-half, weight-up-to}
+use Rattle.measures.specs.Absolute.{absolute-cost, absolute-prefers, counted, reaches-half, weight-up-to}
 use Rattle.measures.specs.Values.{distance, smallest, values, whole-weight}
-use Rattle.measures.proofs.Convex.{Bends, First}
 use Rattle.measures.proofs.Extremes.{smallest-bounds, smallest-holds}
 use Rattle.measures.proofs.Places.{at, placed, top}
+use Rattle.measures.proofs.Spans.{values-levels}
 use Rattle.measures.proofs.Weights.{whole-positive}
 use Rattle.measures.proofs.Summed.{Cost-bends, Cost-shifts, Prefers-first, placed-cost}
 
@@ -163,8 +162,7 @@ module _ (rs : List Reading) (all : All OnScale rs) (some : 0 < length rs) where
   prefers-median =
       let kept = kept-by (reaches-half rs) (values rs) in
       let some-k = some-kept kept refl in
-      let levels : All Level (values rs) = all-map Level (λ r. r .value) rs (all-weaker OnScale (λ r. Level (r .value)) value-level rs all) in
-      let level : Level (smallest kept) = smallest-holds Level kept some-k (all-kept-by (reaches-half rs) Level (values rs) levels) in
+      let level : Level (smallest kept) = smallest-holds Level kept some-k (all-kept-by (reaches-half rs) Level (values rs) (values-levels rs all)) in
       let half : reaches-half rs (smallest kept) ≡ true =
       smallest-holds (λ x. reaches-half rs x ≡ true) kept some-k (kept-by-passes (reaches-half rs) (values rs)) in
       let place = placed (smallest kept) level in

@@ -2,14 +2,13 @@
 use mathlib.Core.Logic.{inl, inr}
 use mathlib.Core.Path.{_≡_}
 use native.Mathlib.Omega.{arith}
-use Prim.Native.Nat.{ℕ, suc, _+_, _-_, _<_, _≤_}
-use lib.IntN.{ℤ, pos, negsuc, natAbs, _+ℤ_, _-ℤ_}
-use lib.Signed.{_≤ℤ_, _<ℤ_}
+use Prim.Native.Nat.{ℕ, _≤_}
+use lib.IntN.{ℤ, pos, natAbs, _+ℤ_, _-ℤ_}
+use lib.Signed.{_≤ℤ_}
 use Rattle.std.proofs.shelf.Signed.{ints}
 use Rattle.reading.specs.Scale.{Level}
 use Rattle.isotonic.specs.Laws.{Lies-between}
 use Rattle.isotonic.proofs.Scales.{level-bounds, level-from}
-use Rattle.measures.specs.Values.{distance}
 
 -- the last place
 abbrev pub top : ℕ

@@ -1,9 +1,8 @@
 -- Levels in 32 bits: to the bits and back they are what they were.
 use mathlib.Core.Path.{_≡_}
 use native.Mathlib.Omega.{arith}
-use Prim.Native.Nat.{_≤_}
 use lib.IntN.{ℤ, _+ℤ_}
-use lib.Signed.{mag, mag-shr, shrZ}
+use lib.Signed.{mag-shr, shrZ}
 use mir.Syntax.{w32}
 use mir.Val.{SFits, ofZ, toZ}
 use Rattle.std.proofs.shelf.Signed.{ints, toZ-ofZ}

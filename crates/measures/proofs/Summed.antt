@@ -1,13 +1,13 @@
 -- Departures that add up a cost of each reading: their laws, wherever that cost bends upwards along the levels.
 use mathlib.Core.List.{List, [], _∷_, _++_}
 use mathlib.Core.Logic.{inl, inr}
-use mathlib.Core.Path.{_≡_, refl, sym, ap, subst, _∙_}
+use mathlib.Core.Path.{_≡_, refl, sym, subst}
 use native.Mathlib.Nat.{add-assoc, add-comm, zero-add}
 use native.Mathlib.Omega.{arith}
-use Prim.Native.Nat.{ℕ, zero, suc, _+_, _<_, _≤_}
+use Prim.Native.Nat.{ℕ, suc, _+_, _<_, _≤_}
 use lib.IntN.{ℤ}
 use lib.ListN.{length}
-use lib.Signed.{_≤ℤ_, _<ℤ_}
+use lib.Signed.{_≤ℤ_}
 use Rattle.std.proofs.shelf.Elements.{all-append}
 use Rattle.std.proofs.shelf.Lists.{length-append}
 use Rattle.std.proofs.shelf.Signed.{ints}
@@ -17,8 +17,10 @@ use Rattle.reading.specs.declared.scale.Reading.{Reading}
 use Rattle.reading.specs.Scale.{Level, OnScale}
 use Rattle.isotonic.specs.Bounds.{one-most}
 use Rattle.isotonic.specs.Laws.{Combines-in-any-order, Empty-departs-by-zero, Joined-departures-combine, Joined-prefers-between, Lies-between, Nearer-departs-no-more, Nowhere-lower, One-departs-within, Raised-prefers-no-lower}
+use Rattle.isotonic.proofs.Raised.{as-many}
+use Rattle.measures.specs.Claims.{Prefers-smallest-of-least}
 use Rattle.measures.specs.Values.{total}
-use Rattle.measures.proofs.Convex.{Bends, First, nearer-above, nearer-below, no-earlier, not-after-both, not-before-both}
+use Rattle.measures.proofs.Convex.{Bends, First, first-least, nearer-above, nearer-below, no-earlier, not-after-both, not-before-both}
 use Rattle.measures.proofs.Places.{at, at-le, at-level, between-levels, placed, top}
 
 -- adding is a way to combine
@@ -50,12 +52,6 @@ Cost-shifts cost =
 abbrev pub Prefers-first : (Reading → ℤ → ℕ) → (List Reading → ℤ) → Type 0
 Prefers-first cost pref =
     (rs : List Reading) → All OnScale rs → 0 < length rs → (p : ℕ) × (pref rs ≡ at p) × First (placed-cost cost rs) top p
-
-pub as-many : (xs ys : List Reading) → Nowhere-lower xs ys → length xs ≡ length ys
-as-many [] [] lower = refl
-as-many [] (y ∷ ys) lower = absurd lower
-as-many (x ∷ xs) [] lower = absurd lower
-as-many (x ∷ xs) (y ∷ ys) lower = ap suc (as-many xs ys (lower .2))
 
 module _ (cost : Reading → ℤ → ℕ) where
   pub sum-empty : Empty-departs-by-zero (total cost)
@@ -134,3 +130,14 @@ module _ (cost : Reading → ℤ → ℕ) (pref : List Reading → ℤ) (bends :
       let y = first ys all-y (omega (arith, as-many xs ys lower)) in
       let le = no-earlier (placed-cost cost xs) (placed-cost cost ys) top (x .0) (y .0) (x .2) (y .2) (total-shifts cost shifts xs ys all-x all-y lower) in
       rw (x .1, y .1) (at-le (x .0) (y .0) le)
+
+  -- what is preferred is the smallest level of least cost
+  pub sum-smallest : Prefers-smallest-of-least (total cost) pref
+  sum-smallest xs all some v level =
+      let b = first xs all some in
+      let there = placed v level in
+      subst (λ z. (total cost xs z ≤ total cost xs v) × (total cost xs v ≡ total cost xs z → z ≤ℤ v)) (sym (b .1))
+      (subst (λ z. (placed-cost cost xs (b .0) ≤ total cost xs z) × (total cost xs z ≡ placed-cost cost xs (b .0) → at (b .0) ≤ℤ z)) (sym (there .2)) (
+        first-least (placed-cost cost xs) top (b .0) (total-bends cost bends xs all) (b .2) (there .0) (there .1) .0,
+        λ same. at-le (b .0) (there .0) (first-least (placed-cost cost xs) top (b .0) (total-bends cost bends xs all) (b .2) (there .0) (there .1) .1 same),
+      ))

@@ -2,3 +2,4 @@ pub mod Values
 pub mod Absolute
 pub mod Squared
 pub mod Largest
+pub mod Claims

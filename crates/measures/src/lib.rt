@@ -4,6 +4,7 @@ mod costs;
 mod largest;
 mod levels;
 mod squared;
+mod theorems;
 
 pub use absolute::Absolute;
 pub use absolute::AbsoluteMeasure;
@@ -11,3 +12,5 @@ pub use largest::Largest;
 pub use largest::LargestMeasure;
 pub use squared::Squared;
 pub use squared::SquaredMeasure;
+pub use theorems::definitions_mean_what_they_say;
+pub use theorems::preferred_is_smallest_of_least;

@@ -6,7 +6,7 @@ use mir.Val.{ofZ, toZ}
 use Rattle.std.proofs.shelf.Lists.{take-all}
 use Rattle.std.proofs.shelf.Signed.{toZ-ofZ}
 use Rattle.measures.specs.Largest.{largest-departs}
-use Rattle.measures.proofs.Middles.{departs-more}
+use Rattle.measures.proofs.Farthest.{departs-more}
 use Rattle.measures.proofs.largest.farthest.Needs as need
 
 pub loop-row-again : need.loop-row-again

@@ -5,7 +5,7 @@ use mir.Syntax.{w32}
 use mir.Val.{SFits}
 use Rattle.isotonic.proofs.Scales.{all-scaled}
 use Rattle.measures.specs.Values.{smallest, values}
-use Rattle.measures.proofs.Middles.{span-levels}
+use Rattle.measures.proofs.Spans.{span-levels}
 use Rattle.measures.proofs.Signs.{half-back, sum-back, sum-fits}
 use Rattle.measures.proofs.largest.middle.Needs as need
 

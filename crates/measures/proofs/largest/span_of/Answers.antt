@@ -1,12 +1,9 @@
-use mathlib.Core.Bool.{true}
-use mathlib.Core.List.{map}
-use mathlib.Core.Path.{_≡_, sym, ap, subst, _∙_}
+use mathlib.Core.Path.{sym, ap, subst, _∙_}
 use native.Mathlib.Omega.{arith}
-use Prim.Native.Nat.{_<_, _≤_}
+use Prim.Native.Nat.{_≤_}
 use lib.IntN.{pos, negsuc}
 use lib.ListN.{length, getD}
 use mir.Syntax.{w32}
-use mir.Val.{ofZ, toZ}
 use Rattle.std.proofs.shelf.Lists.{length-map, take-all}
 use Rattle.std.proofs.shelf.Signed.{toZ-ofZ}
 use Rattle.std.specs.Numbers.{maxZ, minZ}
@@ -17,7 +14,7 @@ use Rattle.isotonic.proofs.Scales.{all-scaled, value-level}
 use Rattle.measures.specs.Values.{values}
 use Rattle.measures.proofs.Extremes.{largest-within, smallest-within}
 use Rattle.measures.proofs.Loops.{fold-step}
-use Rattle.measures.proofs.Middles.{some-values, values-above, values-below}
+use Rattle.measures.proofs.Spans.{some-values, values-above, values-below}
 use Rattle.measures.proofs.Signs.{level-fits}
 use Rattle.measures.proofs.largest.span_of.Needs as need
 

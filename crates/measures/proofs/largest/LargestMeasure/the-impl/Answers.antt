@@ -1,5 +1,6 @@
 -- The laws of L, from the two ends of the values.
-use Rattle.measures.proofs.Middles.{larger-combines, largest-between, largest-bounded, largest-empty, largest-joined, largest-nearer, largest-raised}
+use Rattle.measures.proofs.Farthest.{larger-combines, largest-bounded, largest-empty, largest-joined}
+use Rattle.measures.proofs.Middles.{largest-between, largest-nearer, largest-raised}
 use Rattle.measures.proofs.largest.LargestMeasure.the-impl.Needs as need
 
 pub empty-law : need.empty-law
