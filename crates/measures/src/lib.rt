@@ -14,3 +14,6 @@ pub use squared::Squared;
 pub use squared::SquaredMeasure;
 pub use theorems::definitions_mean_what_they_say;
 pub use theorems::preferred_is_smallest_of_least;
+
+#[cfg(test)]
+mod tests;
