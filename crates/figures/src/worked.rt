@@ -23,7 +23,12 @@ fn of(value: i32, weight: u32) -> Reading {
 }
 
 // Prints the level that the rows prefer under a measure, and what they depart by there.
-fn show<M: Measure>(rt: &LibcRuntime, letter: char, measure: M, rows: &[Reading]) -> io::Result<()> {
+fn show<M: Measure>(
+    rt: &LibcRuntime,
+    letter: char,
+    measure: M,
+    rows: &[Reading],
+) -> io::Result<()> {
     let own = measure;
     let list = Readings::of(rows);
     let Some(level) = own.preferred(list) else {

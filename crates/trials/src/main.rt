@@ -1,6 +1,8 @@
-// Runs the listing and the stored form on good, bad and random input, and prints what they answer and write.
+// Runs the listing, the stored form and the measures on good, bad and random input, and prints what they answer and write.
 mod counts;
 mod damage;
+mod measured;
+mod random;
 mod rooms;
 mod trips;
 
@@ -123,5 +125,6 @@ fn main(rt: LibcRuntime) -> io::Result<()> {
     counts::each_count(&rt)?;
     rooms::each_room(&rt, &SAMPLE)?;
     damage::one_byte(&rt, &SAMPLE)?;
-    trips::there_and_back(&rt)
+    trips::there_and_back(&rt)?;
+    measured::each_list(&rt)
 }

@@ -1,5 +1,5 @@
 // Random readings, written and read back, and what was read written again.
-ghost use Prim.Native.Nat.{max, _<_};
+use crate::random::Random;
 use reading::LIMIT;
 use reading::Reading;
 use reading::ReadingPartialEq;
@@ -10,32 +10,6 @@ use stored::read;
 use stored::write;
 
 const BYTES: usize = 4_100;
-
-// A small generator of numbers that look random.
-#[derive(Drop)]
-struct Random(u32);
-
-impl Random {
-    fn next(&mut self, below: u32) -> u32
-        ensures { λ r. ⌜ r < max below 1 ⌝ }
-    {
-        self.0 = self.0.wrapping_mul(1_664_525).wrapping_add(1_013_904_223);
-        (self.0 >> 8) % below.max(1)
-    }
-
-    // A reading on the scale, now and then at an end of it.
-    fn reading(&mut self) -> Reading {
-        let value = match self.next(8) {
-            0 => -30_000,
-            1 => 30_000,
-            _ => (self.next(60_001) as i32).saturating_sub(30_000),
-        };
-        Reading {
-            value,
-            weight: self.next(1_000).saturating_add(1),
-        }
-    }
-}
 
 // Whether so many random readings come back as they were, from bytes that come back too.
 fn returns(random: &mut Random, count: usize) -> bool {
