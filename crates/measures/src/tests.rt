@@ -1,4 +1,4 @@
-// Worked figures, the ends of the scale and of the limit, and where a measure answers nothing.
+// Worked figures, and where a measure answers nothing.
 use crate::absolute::Absolute;
 use crate::absolute::AbsoluteMeasure;
 use crate::largest::Largest;
@@ -24,17 +24,6 @@ fn told<M: Measure>(measure: M, rows: &[Reading]) -> Option<(i32, u64)> {
     Some((level, own.departure(list, level)?))
 }
 
-// As many readings as may be held, of the largest weight, at the two ends of the scale in turn.
-fn widest() -> [Reading; LIMIT] {
-    let mut rows = [of(-30_000, 1_000); LIMIT];
-    for (i, row) in rows.iter_mut().enumerate() {
-        if i % 2 == 1 {
-            row.value = 30_000;
-        }
-    }
-    rows
-}
-
 #[test]
 fn three_measures_on_worked_lists() -> Result<(), Fail> {
     let lowest = [of(-30_000, 1)];
@@ -49,18 +38,6 @@ fn three_measures_on_worked_lists() -> Result<(), Fail> {
     check_eq(told(Absolute, &weighted), Some((5, 4)))?;
     check_eq(told(Squared, &weighted), Some((4, 12)))?;
     check_eq(told(Largest, &weighted), Some((3, 2)))
-}
-
-#[test]
-fn the_widest_list_is_answered() -> Result<(), Fail> {
-    let rows = widest();
-    check_eq(told(Absolute, &rows), Some((-30_000, 30_720_000_000)))?;
-    check_eq(told(Squared, &rows), Some((0, 921_600_000_000_000)))?;
-    check_eq(told(Largest, &rows), Some((0, 30_000)))?;
-    check_eq(
-        Squared.departure(Readings::of(&rows), 30_000),
-        Some(1_843_200_000_000_000),
-    )
 }
 
 #[test]
