@@ -1,6 +1,5 @@
 -- How far a list can depart at a level: by the bound of one reading, times its length.
 use mathlib.Core.List.{List, [], _∷_}
-use mathlib.Core.Bool.{_&&_}
 use mathlib.Core.Path.{_≡_, sym}
 use native.Mathlib.Omega.{arith}
 use Prim.Native.Nat.{ℕ, _*_, _≤_}
@@ -12,7 +11,7 @@ use Rattle.std.specs.declared.option.Option.the-variants.{Some}
 use Rattle.std.specs.shelf.Lists.{All}
 use Rattle.reading.specs.declared.scale.Reading.{Reading}
 use Rattle.reading.specs.Scale.{Level, OnScale, is-level, limit}
-use Rattle.isotonic.specs.Answers.{departure-answer}
+use Rattle.isotonic.specs.Answers.{departure-answer, has-departure}
 use Rattle.isotonic.specs.Bounds.{one-most}
 use Rattle.isotonic.specs.Laws.{Combines-in-any-order, Empty-departs-by-zero, Joined-departures-combine, One-departs-within}
 use Rattle.isotonic.proofs.Given.{given-some}
@@ -30,6 +29,6 @@ module _ (dep : List Reading → ℤ → ℕ) (comb : ℕ → ℕ → ℕ) (empt
   -- so does what is answered for it
   pub answer-within : (rs : List Reading) (v : ℤ) (d : ℕ) → All OnScale rs → departure-answer dep rs v ≡ Some d → d ≤ one-most * length rs
   answer-within rs v d all e =
-      let told = given-some (leb (length rs) limit && is-level v) (dep rs v) d e in
+      let told = given-some (has-departure rs v) (dep rs v) d e in
       let level = and-parts (leb (length rs) limit) (is-level v) (told .0) .1 in
       rw (sym (told .1)) (departs-within rs v all level)

@@ -15,14 +15,24 @@ use Rattle.isotonic.specs.Bounds.{all-most}
 abbrev pub only-if : {X : Type 0} → Bool → X → Option X
 only-if test x = cond test (Some x) None
 
--- a departure is absent for a list longer than the limit, and at a number that is no level
+-- there is a departure of a list within the limit, at a number that is a level
+abbrev pub has-departure : List Reading → ℤ → Bool
+has-departure rs v = leb (length rs) limit && is-level v
+
+-- there is a combination of two departures, neither more than any list that may be held departs by
+abbrev pub has-combination : ℕ → ℕ → Bool
+has-combination x y = leb x all-most && leb y all-most
+
+-- there is a preferred level of a list within the limit that has a reading
+abbrev pub has-preferred : List Reading → Bool
+has-preferred rs = leb 1 (length rs) && leb (length rs) limit
+
+-- what is answered for a departure, and so for the other two
 abbrev pub departure-answer : (List Reading → ℤ → ℕ) → List Reading → ℤ → Option ℕ
-departure-answer dep rs v = only-if (leb (length rs) limit && is-level v) (dep rs v)
+departure-answer dep rs v = only-if (has-departure rs v) (dep rs v)
 
--- a combination is absent where either part is more than any list that may be held departs by
 abbrev pub combination-answer : (ℕ → ℕ → ℕ) → ℕ → ℕ → Option ℕ
-combination-answer comb x y = only-if (leb x all-most && leb y all-most) (comb x y)
+combination-answer comb x y = only-if (has-combination x y) (comb x y)
 
--- a preferred level is absent for an empty list and for one longer than the limit
 abbrev pub preferred-answer : (List Reading → ℤ) → List Reading → Option ℤ
-preferred-answer pref rs = only-if (leb 1 (length rs) && leb (length rs) limit) (pref rs)
+preferred-answer pref rs = only-if (has-preferred rs) (pref rs)

@@ -7,14 +7,7 @@ ghost use lib.IntN.{ℤ};
 ghost use Rattle.isotonic.specs.Answers.{combination-answer, departure-answer, preferred-answer};
 ghost use Rattle.isotonic.specs.Laws.{Combines-in-any-order, Empty-departs-by-zero, Joined-departures-combine, Joined-prefers-between, Nearer-departs-no-more, One-departs-within, Raised-prefers-no-lower};
 ghost use Rattle.reading.specs.declared.scale.Reading.{Reading};
-use reading::LIMIT;
 use reading::Readings;
-
-// The most that a single reading departs by, under any measure.
-pub const READING_MOST: u64 = 4_000_000_000_000;
-
-// The most that as many readings as may be held depart by.
-pub const COMBINED_MOST: u64 = LIMIT as u64 * READING_MOST;
 
 // A measure means three things, which have no limits: what a list of readings departs by at a level,
 // what two departures come to together, and the level that a list prefers. It keeps seven laws of them,
@@ -40,15 +33,15 @@ pub trait Measure: Copy {
 
     law raised: { (m : Self) → Raised-prefers-no-lower (prefers m) };
 
-    // What the readings depart by at a level; nothing for a list longer than the limit or a number that is no level.
+    // What the readings depart by at a level; nothing where `has_departure` says so.
     fn departure(self, list: Readings<'_>, level: i32) -> Option<u64>
         ensures { λ r. ⌜ r ≡ departure-answer (departs self) (now (list .entry .rows)) level ⌝ };
 
-    // Two departures together; nothing where either is above `COMBINED_MOST`.
+    // Two departures together; nothing where `has_combination` says so.
     fn combination(self, first: u64, second: u64) -> Option<u64>
         ensures { λ r. ⌜ r ≡ combination-answer (combined self) first second ⌝ };
 
-    // The level that the readings prefer; nothing for an empty list or one longer than the limit.
+    // The level that the readings prefer; nothing where `has_preferred` says so.
     fn preferred(self, list: Readings<'_>) -> Option<i32>
         ensures { λ r. ⌜ r ≡ preferred-answer (prefers self) (now (list .entry .rows)) ⌝ };
 }

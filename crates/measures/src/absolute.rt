@@ -13,8 +13,8 @@ use crate::levels::LAST_PLACE;
 use crate::levels::distance_from;
 use crate::levels::level_at;
 use isotonic::Measure;
+use isotonic::has_preferred;
 use reading::HIGHEST;
-use reading::LIMIT;
 use reading::Reading;
 use reading::Readings;
 
@@ -89,7 +89,7 @@ pub impl Measure for Absolute as AbsoluteMeasure {
     fn preferred(self, list: Readings<'_>) -> Option<i32>
         ensures { λ r. ⌜ r ≡ preferred-answer absolute-prefers (now (list .entry .rows)) ⌝ }
     {
-        if list.len() == 0 || list.len() > LIMIT {
+        if !has_preferred(list) {
             return None;
         }
         Some(median(list))

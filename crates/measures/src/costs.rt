@@ -8,11 +8,10 @@ ghost use Rattle.isotonic.specs.Bounds.{one-most};
 ghost use Rattle.measures.specs.Values.{total};
 ghost use Rattle.reading.specs.Scale.{Level, OnScale, limit};
 ghost use Rattle.reading.specs.declared.scale.Reading.{Reading as Row};
-use isotonic::COMBINED_MOST;
-use reading::LIMIT;
+use isotonic::has_combination;
+use isotonic::has_departure;
 use reading::Reading;
 use reading::Readings;
-use reading::is_level;
 
 // A cost of one reading at one level, small enough to add up over a list.
 pub(crate) trait Cost: Copy {
@@ -44,7 +43,7 @@ pub(crate) fn added<C: Cost>(cost: C, list: Readings<'_>, level: i32) -> u64
 pub(crate) fn added_departure<C: Cost>(cost: C, list: Readings<'_>, level: i32) -> Option<u64>
     ensures { λ r. ⌜ r ≡ departure-answer (total (costs cost)) (now (list .entry .rows)) level ⌝ }
 {
-    if list.len() > LIMIT || !is_level(level) {
+    if !has_departure(list, level) {
         return None;
     }
     Some(added(cost, list, level))
@@ -54,7 +53,7 @@ pub(crate) fn added_departure<C: Cost>(cost: C, list: Readings<'_>, level: i32) 
 pub(crate) fn added_combination(first: u64, second: u64) -> Option<u64>
     ensures { λ r. ⌜ r ≡ combination-answer (λ x y. x + y) first second ⌝ }
 {
-    if first > COMBINED_MOST || second > COMBINED_MOST {
+    if !has_combination(first, second) {
         return None;
     }
     Some(first + second)

@@ -6,13 +6,13 @@ ghost use Rattle.isotonic.specs.Answers.{combination-answer, departure-answer, 
 ghost use Rattle.measures.specs.Largest.{largest-departs, largest-prefers};
 ghost use Rattle.measures.specs.Values.{largest, smallest, values};
 use crate::levels::distance_from;
-use isotonic::COMBINED_MOST;
 use isotonic::Measure;
+use isotonic::has_combination;
+use isotonic::has_departure;
+use isotonic::has_preferred;
 use reading::HIGHEST;
-use reading::LIMIT;
 use reading::LOWEST;
 use reading::Readings;
-use reading::is_level;
 
 // The measure L.
 #[derive(Clone, Copy)]
@@ -71,7 +71,7 @@ pub impl Measure for Largest as LargestMeasure {
     fn departure(self, list: Readings<'_>, level: i32) -> Option<u64>
         ensures { λ r. ⌜ r ≡ departure-answer largest-departs (now (list .entry .rows)) level ⌝ }
     {
-        if list.len() > LIMIT || !is_level(level) {
+        if !has_departure(list, level) {
             return None;
         }
         Some(farthest(list, level))
@@ -80,7 +80,7 @@ pub impl Measure for Largest as LargestMeasure {
     fn combination(self, first: u64, second: u64) -> Option<u64>
         ensures { λ r. ⌜ r ≡ combination-answer (λ x y. max x y) first second ⌝ }
     {
-        if first > COMBINED_MOST || second > COMBINED_MOST {
+        if !has_combination(first, second) {
             return None;
         }
         Some(first.max(second))
@@ -89,7 +89,7 @@ pub impl Measure for Largest as LargestMeasure {
     fn preferred(self, list: Readings<'_>) -> Option<i32>
         ensures { λ r. ⌜ r ≡ preferred-answer largest-prefers (now (list .entry .rows)) ⌝ }
     {
-        if list.len() == 0 || list.len() > LIMIT {
+        if !has_preferred(list) {
             return None;
         }
         Some(middle(list))

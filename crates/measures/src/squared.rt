@@ -12,7 +12,7 @@ use crate::costs::added_departure;
 use crate::levels::distance_from;
 use crate::levels::level_at;
 use isotonic::Measure;
-use reading::LIMIT;
+use isotonic::has_preferred;
 use reading::LOWEST;
 use reading::Reading;
 use reading::Readings;
@@ -94,7 +94,7 @@ pub impl Measure for Squared as SquaredMeasure {
     fn preferred(self, list: Readings<'_>) -> Option<i32>
         ensures { λ r. ⌜ r ≡ preferred-answer squared-prefers (now (list .entry .rows)) ⌝ }
     {
-        if list.len() == 0 || list.len() > LIMIT {
+        if !has_preferred(list) {
             return None;
         }
         Some(mean(list))
