@@ -1,4 +1,4 @@
-use mathlib.Core.Path.{_≡_, sym, ap, subst, _∙_}
+use mathlib.Core.Path.{_≡_, sym, subst, _∙_}
 use mir.Syntax.{w32}
 use Rattle.std.proofs.shelf.Signed.{toZ-ofZ}
 use Rattle.reading.specs.Lists.{stretch}
@@ -14,9 +14,7 @@ returns g c =
     let dep = g .M·Measure .departs m in
     let part = stretch (c .args .list .rows .now) (c .args .first) (c .args .last) in
     let value : c .departure .result ≡ departure-answer dep part (c .args .level) =
-    c .departure .ensures
-    ∙ ap (λ v. departure-answer dep (c .stretch .result .rows .now) v) (toZ-ofZ w32 (c .args .level) (c .fits .level))
-    ∙ ap (λ rs. departure-answer dep rs (c .args .level)) (c .stretch .ensures) in
+    cc (toZ-ofZ w32 (c .args .level) (c .fits .level), c .departure .ensures, c .stretch .ensures) in
     let law = g .M·Measure·met in
     record {
       value = value;

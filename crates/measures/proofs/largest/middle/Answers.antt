@@ -1,10 +1,7 @@
-use mathlib.Core.Path.{sym, ap, subst, _∙_}
-use lib.IntN.{_+ℤ_}
-use lib.Signed.{shrZ}
+use mathlib.Core.Path.{sym, subst}
 use mir.Syntax.{w32}
 use mir.Val.{SFits}
 use Rattle.isotonic.proofs.Scales.{all-scaled}
-use Rattle.measures.specs.Values.{smallest, values}
 use Rattle.measures.proofs.Spans.{span-levels}
 use Rattle.measures.proofs.Signs.{half-back, sum-back, sum-fits}
 use Rattle.measures.proofs.largest.middle.Needs as need
@@ -25,6 +22,4 @@ returns c =
     let low = c .span-of-low .result .low in
     let high = c .span-of-low .result .high in
     let levels = span-levels rows (all-scaled rows (c .args .list .scaled)) (c .pre) low high (told .low) (told .high) in
-    half-back low high (levels .0) (levels .1)
-    ∙ ap (λ a. shrZ (a +ℤ high) 2) (told .low)
-    ∙ ap (λ b. shrZ (smallest (values rows) +ℤ b) 2) (told .high)
+    cc (half-back low high (levels .0) (levels .1), told .low, told .high)
