@@ -33,15 +33,15 @@ pub trait Measure: Copy {
 
     law raised: { (m : Self) → Raised-prefers-no-lower (prefers m) };
 
-    // What the readings depart by at a level; nothing where `has_departure` says so.
+    // What the readings depart by at a level; nothing unless `has_departure`.
     fn departure(self, list: Readings<'_>, level: i32) -> Option<u64>
         ensures { λ r. ⌜ r ≡ departure-answer (departs self) (now (list .entry .rows)) level ⌝ };
 
-    // Two departures together; nothing where `has_combination` says so.
+    // Two departures together; nothing unless `has_combination`.
     fn combination(self, first: u64, second: u64) -> Option<u64>
         ensures { λ r. ⌜ r ≡ combination-answer (combined self) first second ⌝ };
 
-    // The level that the readings prefer; nothing where `has_preferred` says so.
+    // The level that the readings prefer; nothing unless `has_preferred`.
     fn preferred(self, list: Readings<'_>) -> Option<i32>
         ensures { λ r. ⌜ r ≡ preferred-answer (prefers self) (now (list .entry .rows)) ⌝ };
 }

@@ -54,22 +54,15 @@ largest-bounded r v scaled level =
     let far : distance (r .value) v ≤ 60000 = omega (arith, ints) in
     omega arith
 
-module _ (rs : List Reading) (v : ℤ) where
-  -- no value lies farther off than the largest distance
-  departs-bounds : (m : ℕ) → largest-departs rs v ≤ m → All (λ x. distance x v ≤ m) (values rs)
-  departs-bounds m h = go rs h
-    where
-      go : (qs : List Reading) → largest-departs qs v ≤ m → All (λ x. distance x v ≤ m) (values qs)
-      go [] k = tt
-      go (q ∷ qs) k = (omega arith, go qs (omega arith))
+-- no value lies farther off than the largest distance
+departs-bounds : (rs : List Reading) (v : ℤ) (m : ℕ) → largest-departs rs v ≤ m → All (λ x. distance x v ≤ m) (values rs)
+departs-bounds [] v m h = tt
+departs-bounds (r ∷ rs) v m h = (omega arith, departs-bounds rs v m (omega arith))
 
-  -- and that distance is reached
-  departs-least : (m : ℕ) → All (λ x. distance x v ≤ m) (values rs) → largest-departs rs v ≤ m
-  departs-least m all = go rs all
-    where
-      go : (qs : List Reading) → All (λ x. distance x v ≤ m) (values qs) → largest-departs qs v ≤ m
-      go [] k = omega arith
-      go (q ∷ qs) k = omega (arith, k .0, go qs (k .1))
+-- and that distance is reached
+departs-least : (rs : List Reading) (v : ℤ) (m : ℕ) → All (λ x. distance x v ≤ m) (values rs) → largest-departs rs v ≤ m
+departs-least [] v m all = omega arith
+departs-least (r ∷ rs) v m all = omega (arith, all .0, departs-least rs v m (all .1))
 
 -- what two facts of each entry give
 all-both :

@@ -22,7 +22,7 @@ weighted-sum (r ∷ rs) = (pos (r .weight) *ℤ r .value) +ℤ weighted-sum rs
 abbrev pub squared-prefers : List Reading → ℤ
 squared-prefers rs = nearest (weighted-sum rs) (whole-weight rs)
 
--- a value counted from the lowest level on
+-- for the code, which keeps above zero: a value counted from the lowest level on
 abbrev pub place-of : Reading → ℕ
 place-of r = natAbs (r .value +ℤ pos 30000)
 
