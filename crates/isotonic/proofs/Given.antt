@@ -1,10 +1,10 @@
--- Answers that are there only where a test passes: what a given answer says, and when one is given.
+-- Answers that are there only where a test passes: what one says, and when it is given.
 use mathlib.Core.Bool.{Bool, true, false}
 use mathlib.Core.Path.{_≡_, refl, sym, ap, _∙_}
 use native.Mathlib.Omega.{arith}
 use Prim.Native.Nat.{ℕ}
 use Rattle.std.specs.declared.option.Option.the-variants.{None, Some}
-use Rattle.std.proofs.shelf.Tests.{cond-false, cond-true}
+use Rattle.std.proofs.shelf.Tests.{cond-true}
 use Rattle.isotonic.specs.Answers.{only-if}
 
 -- where there is an answer, the test passed
@@ -15,7 +15,3 @@ given-some false x d e = absurd (let z : _≡_ {A = ℕ} 0 1 = cc in omega arith
 -- the answer where the test passes
 pub given : {X : Type 0} (test : Bool) (x d : X) → test ≡ true → d ≡ x → Some d ≡ only-if test x
 given test x d h e = ap Some e ∙ sym (cond-true test (Some x) None h)
-
--- and where it fails
-pub absent : {X : Type 0} (test : Bool) (x : X) → test ≡ false → None ≡ only-if test x
-absent test x h = sym (cond-false test (Some x) None h)

@@ -11,7 +11,7 @@ use lib.IntN.{ℤ, pos, _+ℤ_}
 use lib.ListN.{length}
 use Rattle.std.proofs.shelf.Signed.{ints}
 use Rattle.std.proofs.shelf.Sums.{sumBy-cons}
-use Rattle.std.proofs.shelf.Tests.{cases-bool, cases-lt, cases-order, cond-false, cond-true, leb-false, leb-true}
+use Rattle.std.proofs.shelf.Tests.{cases-bool, cases-lt, cond-false, cond-true, leb-false, leb-true}
 use Rattle.std.specs.shelf.Lists.{All}
 use Rattle.reading.specs.declared.scale.Reading.{Reading}
 use Rattle.reading.specs.Scale.{Level, OnScale}
@@ -19,6 +19,7 @@ use Rattle.isotonic.specs.Bounds.{one-most}
 use Rattle.isotonic.proofs.Scales.{level-bounds, value-level, weight-bounds}
 use Rattle.measures.specs.Squared.{place-of, squared-cost, squared-prefers, weighted-places, weighted-sum}
 use Rattle.measures.specs.Values.{distance, floored, left-over, nearest, whole-weight}
+use Rattle.measures.proofs.Convex.{First, one-first}
 use Rattle.measures.proofs.Places.{at, top}
 use Rattle.measures.proofs.Quotients.{floored-shifted, left-over-shifted}
 use Rattle.measures.proofs.Weights.{whole-positive}
@@ -91,14 +92,6 @@ pub record Mean (sum weight p : ℕ) : Type 0 where
   pub reached : 2 * sum ≤ (2 * p + 1) * weight
   pub missed : (n : ℕ) → n < p → (2 * n + 1) * weight < 2 * sum
 
-one-mean : (sum weight p q : ℕ) → Mean sum weight p → Mean sum weight q → p ≡ q
-one-mean sum weight p q a b =
-    elim (cases-order p q) [
-      | inl e ↦ e
-      | inr (inl h) ↦ absurd (omega (arith, a .reached, b .missed p h))
-      | inr (inr h) ↦ absurd (omega (arith, b .reached, a .missed q h))
-    ]
-
 -- that place as one quotient
 quotient-mean : (sum weight p : ℕ) → 0 < weight → p ≡ (2 * sum + weight - 1) / (2 * weight) → Mean sum weight p
 quotient-mean sum weight p some e =
@@ -160,6 +153,15 @@ module _ (rs : List Reading) (all : All OnScale rs) (some : 0 < length rs) where
         | inr h ↦ h
       ]
 
+  -- the mean's place is the first level of least cost
+  mean-first : (p : ℕ) → Mean (weighted-places rs) (whole-weight rs) p → First (placed-cost squared-cost rs) top p
+  mean-first p mean =
+      record {
+        within = mean-within p mean;
+        stays = λ h. omega (arith, total-step rs p all, mean .reached);
+        falls = λ n h. omega (arith, total-step rs n all, mean .missed n h);
+      }
+
   -- the quotient of what a list weighs is what is preferred
   pub quotient-preferred :
       (sum weight p : ℕ) → sum ≡ weighted-places rs → weight ≡ whole-weight rs → p ≡ (2 * sum + weight - 1) / (2 * weight)
@@ -169,17 +171,7 @@ module _ (rs : List Reading) (all : All OnScale rs) (some : 0 < length rs) where
       let own = quotient-mean sum weight p some-weight g in
       let mean : Mean (weighted-places rs) (whole-weight rs) p = subst (λ w. Mean (weighted-places rs) w p) f (subst (λ s. Mean s weight p) e own) in
       let m = prefers-mean in
-      (mean-within p mean, ap at (one-mean (weighted-places rs) (whole-weight rs) p (m .0) mean (m .2)) ∙ sym (m .1))
+      (mean-within p mean, ap at (one-first (placed-cost squared-cost rs) top p (m .0) (mean-first p mean) (mean-first (m .0) (m .2))) ∙ sym (m .1))
 
 pub squared-first : Prefers-first squared-cost squared-prefers
-squared-first rs all some =
-    let m = prefers-mean rs all some in
-    let mean = m .2 in (
-      m .0,
-      m .1,
-      record {
-        within = mean-within rs all some (m .0) mean;
-        stays = λ h. omega (arith, total-step rs (m .0) all, mean .reached);
-        falls = λ n h. omega (arith, total-step rs n all, mean .missed n h);
-      },
-    )
+squared-first rs all some = let m = prefers-mean rs all some in (m .0, m .1, mean-first rs all some (m .0) (m .2))

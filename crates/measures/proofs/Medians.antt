@@ -12,7 +12,7 @@ use lib.Signed.{_≤ℤ_, _<ℤ_, leZ}
 use Rattle.std.proofs.shelf.Elements.{all-kept-by, kept-by-passes}
 use Rattle.std.proofs.shelf.Signed.{ints, by-ltZ}
 use Rattle.std.proofs.shelf.Sums.{sumBy-cons}
-use Rattle.std.proofs.shelf.Tests.{both-ways, cases-lt, cases-order, cond-both, cond-false, cond-true, leb-true, le-leb}
+use Rattle.std.proofs.shelf.Tests.{both-ways, cases-lt, cond-both, cond-false, cond-true, leb-true, le-leb}
 use Rattle.std.specs.shelf.Lists.{All, kept-by}
 use Rattle.reading.specs.declared.scale.Reading.{Reading}
 use Rattle.reading.specs.Scale.{Level, OnScale}
@@ -20,6 +20,7 @@ use Rattle.isotonic.specs.Bounds.{one-most}
 use Rattle.isotonic.proofs.Scales.{level-bounds, value-level, weight-bounds}
 use Rattle.measures.specs.Absolute.{absolute-cost, absolute-prefers, counted, reaches-half, weight-up-to}
 use Rattle.measures.specs.Values.{distance, smallest, values, whole-weight}
+use Rattle.measures.proofs.Convex.{First, one-first}
 use Rattle.measures.proofs.Extremes.{smallest-bounds, smallest-holds}
 use Rattle.measures.proofs.Places.{at, placed, top}
 use Rattle.measures.proofs.Spans.{values-levels}
@@ -183,29 +184,20 @@ module _ (rs : List Reading) (all : All OnScale rs) (some : 0 < length rs) where
                 ];
           }
 
-one-median : (rs : List Reading) (p q : ℕ) → Median rs p → Median rs q → p ≡ q
-one-median rs p q a b =
-    elim (cases-order p q) [
-      | inl e ↦ e
-      | inr (inl h) ↦ absurd (omega (arith, a .reached, b .missed p h))
-      | inr (inr h) ↦ absurd (omega (arith, b .reached, a .missed q h))
-    ]
+-- a median is the first level of least cost
+median-first : (rs : List Reading) (p : ℕ) → Median rs p → First (placed-cost absolute-cost rs) top p
+median-first rs p median =
+    record {
+      within = median .within;
+      stays = λ h. omega (arith, total-step rs p, median .reached);
+      falls = λ n h. omega (arith, total-step rs n, median .missed n h);
+    }
 
--- a median is what is preferred
+-- so it is what is preferred
 pub median-preferred : (rs : List Reading) (p : ℕ) → All OnScale rs → 0 < length rs → Median rs p → at p ≡ absolute-prefers rs
 median-preferred rs p all some median =
     let m = prefers-median rs all some in
-    ap at (one-median rs p (m .0) median (m .2)) ∙ sym (m .1)
+    ap at (one-first (placed-cost absolute-cost rs) top p (m .0) (median-first rs p median) (median-first rs (m .0) (m .2))) ∙ sym (m .1)
 
 pub absolute-first : Prefers-first absolute-cost absolute-prefers
-absolute-first rs all some =
-    let m = prefers-median rs all some in
-    let median = m .2 in (
-      m .0,
-      m .1,
-      record {
-        within = median .within;
-        stays = λ h. omega (arith, total-step rs (m .0), median .reached);
-        falls = λ n h. omega (arith, total-step rs n, median .missed n h);
-      },
-    )
+absolute-first rs all some = let m = prefers-median rs all some in (m .0, m .1, median-first rs (m .0) (m .2))

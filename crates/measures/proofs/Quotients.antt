@@ -12,7 +12,7 @@ use lib.Signed.{_≤ℤ_, _<ℤ_}
 use Rattle.std.proofs.shelf.Signed.{by-ltZ, ints, remEuclid-is}
 use Rattle.std.proofs.shelf.Tests.{cases-lt, cond-both, leb-false, leb-true}
 use Rattle.measures.specs.Claims.{Floored-is-largest-not-above, Nearest-is-nearest}
-use Rattle.measures.specs.Values.{distance, floored, left-over, nearest}
+use Rattle.measures.specs.Values.{distance, floored, left-over}
 
 -- a quotient is known by its parts
 quotient-is : (m n q r : ℕ) → r < n → m ≡ q * n + r → m / n ≡ q

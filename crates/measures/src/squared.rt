@@ -21,13 +21,21 @@ use reading::Readings;
 #[derive(Clone, Copy)]
 pub struct Squared;
 
+// The square of a distance between levels.
+fn square(far: u64) -> u64
+    requires { ⌜ far ≤ 60000 ⌝ }
+    ensures value { λ r. ⌜ r ≡ far * far ⌝ }
+    ensures small { λ r. ⌜ r ≤ 3600000000 ⌝ }
+{
+    far * far
+}
+
 // Weight times the square of value - level.
 impl Cost for Squared as SquaredCost {
     ghost costs = { λ _. squared-cost };
 
     fn cost(self, row: Reading, level: i32) -> u64 {
-        let far = distance_from(row, level);
-        u64::from(row.weight) * (far * far)
+        u64::from(row.weight) * square(distance_from(row, level))
     }
 }
 

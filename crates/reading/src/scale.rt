@@ -45,6 +45,6 @@ impl Reading {
     pub fn is_on_scale(self) -> bool
         ensures { λ r. ⌜ r ≡ on-scale self ⌝ }
     {
-        LOWEST <= self.value && self.value <= HIGHEST && 1 <= self.weight && self.weight <= HEAVIEST
+        is_level(self.value) && 1 <= self.weight && self.weight <= HEAVIEST
     }
 }
