@@ -12,11 +12,10 @@ use Rattle.std.specs.shelf.Lists.{All}
 use Rattle.reading.specs.declared.scale.Reading.{Reading}
 use Rattle.reading.specs.Scale.{OnScale}
 use Rattle.isotonic.specs.Laws.{Combines-in-any-order, Empty-departs-by-zero, Joined-departures-combine, One-departs-within}
-use Rattle.isotonic.proofs.Scales.{level-bounds, value-level}
 use Rattle.measures.specs.Largest.{largest-departs}
 use Rattle.measures.specs.Values.{distance, largest, smallest, values}
 use Rattle.measures.proofs.Extremes.{largest-bounds, largest-holds, smallest-bounds, smallest-holds}
-use Rattle.measures.proofs.Places.{at}
+use Rattle.measures.proofs.Places.{at, distance-within}
 use Rattle.measures.proofs.Spans.{Ends, some-values}
 
 -- taking the larger is a way to combine
@@ -48,11 +47,7 @@ pub largest-joined : Joined-departures-combine largest-departs (λ x y. max x y)
 largest-joined xs ys v all-x all-y level = departs-joined xs ys v
 
 pub largest-bounded : One-departs-within largest-departs
-largest-bounded r v scaled level =
-    let x = level-bounds (r .value) (value-level r scaled) in
-    let y = level-bounds v level in
-    let far : distance (r .value) v ≤ 60000 = omega (arith, ints) in
-    omega arith
+largest-bounded r v scaled level = omega (arith, distance-within r v scaled level)
 
 -- no value lies farther off than the largest distance
 departs-bounds : (rs : List Reading) (v : ℤ) (m : ℕ) → largest-departs rs v ≤ m → All (λ x. distance x v ≤ m) (values rs)

@@ -20,7 +20,7 @@ use Rattle.isotonic.proofs.Scales.{level-bounds, value-level, weight-bounds}
 use Rattle.measures.specs.Squared.{place-of, squared-cost, squared-prefers, weighted-places, weighted-sum}
 use Rattle.measures.specs.Values.{distance, floored, left-over, nearest, whole-weight}
 use Rattle.measures.proofs.Convex.{First, one-first}
-use Rattle.measures.proofs.Places.{at, top}
+use Rattle.measures.proofs.Places.{at, distance-within, top}
 use Rattle.measures.proofs.Quotients.{floored-shifted, left-over-shifted}
 use Rattle.measures.proofs.Weights.{whole-positive}
 use Rattle.measures.proofs.Summed.{Cost-bends, Cost-shifts, Prefers-first, placed-cost}
@@ -79,11 +79,8 @@ squared-shifts r s scaled-r scaled-s h same n within =
 
 pub squared-small : (r : Reading) (v : ℤ) → OnScale r → Level v → squared-cost r v ≤ one-most
 squared-small r v scaled level =
-    let x = level-bounds (r .value) (value-level r scaled) in
-    let y = level-bounds v level in
-    let far : distance (r .value) v ≤ 60000 = omega (arith, ints) in
-    let heavy = weight-bounds r scaled .1 in
-    omega (arith, mul-le-mul heavy (mul-le-mul far far))
+    let far = distance-within r v scaled level in
+    omega (arith, mul-le-mul (weight-bounds r scaled .1) (mul-le-mul far far))
 
 -- ---- what is preferred: the first level that is at least the mean less a half
 
@@ -92,11 +89,15 @@ pub record Mean (sum weight p : ℕ) : Type 0 where
   pub reached : 2 * sum ≤ (2 * p + 1) * weight
   pub missed : (n : ℕ) → n < p → (2 * n + 1) * weight < 2 * sum
 
+-- it is known by a bound on either side
+mean-between : (sum weight p : ℕ) → 2 * (weight * p) < 2 * sum + weight → 2 * sum ≤ 2 * (weight * p) + weight → Mean sum weight p
+mean-between sum weight p low high = record { reached = omega arith; missed = λ n h. omega (arith, mul-le-mul-left weight h) }
+
 -- that place as one quotient
 quotient-mean : (sum weight p : ℕ) → 0 < weight → p ≡ (2 * sum + weight - 1) / (2 * weight) → Mean sum weight p
 quotient-mean sum weight p some e =
     let parts = ap (λ j. weight * j) e in
-    record { reached = omega arith; missed = λ n h. omega (arith, mul-le-mul-left weight h) }
+    mean-between sum weight p (omega arith) (omega arith)
 
 -- the nearest whole number to a quotient is such a place
 nearest-mean :
@@ -108,22 +109,12 @@ nearest-mean z weight sum some shifted =
     elim (cases-bool (leb (2 * left-over z weight) weight)) [
       | inl e ↦
           let low : 2 * (sum % weight) ≤ weight = omega (arith, leb-true _ _ e, rest) in
-          (q, cond-true _ _ _ e ∙ floor, below q refl low)
+          (q, cond-true _ _ _ e ∙ floor, mean-between sum weight q (omega arith) (omega arith))
       | inr e ↦
           let high : weight < 2 * (sum % weight) = omega (arith, leb-false _ _ e, rest) in
           let next : floored z weight +ℤ pos 1 ≡ at (suc q) = omega (arith, ints, floor) in
-          (suc q, cond-false _ _ _ e ∙ next, above q refl high)
+          (suc q, cond-false _ _ _ e ∙ next, mean-between sum weight (suc q) (omega arith) (omega arith))
     ]
-  where
-    below : (q : ℕ) → sum / weight ≡ q → 2 * (sum % weight) ≤ weight → Mean sum weight q
-    below q e low =
-        let parts = ap (λ j. weight * j) e in
-        record { reached = omega arith; missed = λ n h. omega (arith, mul-le-mul-left weight h) }
-
-    above : (q : ℕ) → sum / weight ≡ q → weight < 2 * (sum % weight) → Mean sum weight (suc q)
-    above q e high =
-        let parts = ap (λ j. weight * j) e in
-        record { reached = omega arith; missed = λ n h. omega (arith, mul-le-mul-left weight h) }
 
 sum-shifted : (rs : List Reading) → All OnScale rs → weighted-sum rs +ℤ pos (30000 * whole-weight rs) ≡ pos (weighted-places rs)
 sum-shifted [] all = refl

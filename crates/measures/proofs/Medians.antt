@@ -22,7 +22,7 @@ use Rattle.measures.specs.Absolute.{absolute-cost, absolute-prefers, counted, 
 use Rattle.measures.specs.Values.{distance, smallest, values, whole-weight}
 use Rattle.measures.proofs.Convex.{First, one-first}
 use Rattle.measures.proofs.Extremes.{smallest-bounds, smallest-holds}
-use Rattle.measures.proofs.Places.{at, placed, top}
+use Rattle.measures.proofs.Places.{at, distance-within, placed, top}
 use Rattle.measures.proofs.Spans.{values-levels}
 use Rattle.measures.proofs.Weights.{whole-positive}
 use Rattle.measures.proofs.Summed.{Cost-bends, Cost-shifts, Prefers-first, placed-cost}
@@ -71,12 +71,7 @@ absolute-shifts r s scaled-r scaled-s h same n within =
     omega (arith, cost-step r n, cost-step s n, counted-rises r s (at n) (at n) same (omega (arith, ints)) h)
 
 pub absolute-small : (r : Reading) (v : ℤ) → OnScale r → Level v → absolute-cost r v ≤ one-most
-absolute-small r v scaled level =
-    let x = level-bounds (r .value) (value-level r scaled) in
-    let y = level-bounds v level in
-    let far : distance (r .value) v ≤ 60000 = omega (arith, ints) in
-    let heavy = weight-bounds r scaled .1 in
-    omega (arith, mul-le-mul heavy far)
+absolute-small r v scaled level = omega (arith, mul-le-mul (weight-bounds r scaled .1) (distance-within r v scaled level))
 
 -- ---- what is preferred: the first level that reaches half of the weight
 

@@ -6,9 +6,11 @@ use Prim.Native.Nat.{ℕ, _≤_}
 use lib.IntN.{ℤ, pos, natAbs, _+ℤ_, _-ℤ_}
 use lib.Signed.{_≤ℤ_}
 use Rattle.std.proofs.shelf.Signed.{ints}
-use Rattle.reading.specs.Scale.{Level}
+use Rattle.reading.specs.declared.scale.Reading.{Reading}
+use Rattle.reading.specs.Scale.{Level, OnScale}
 use Rattle.isotonic.specs.Laws.{Lies-between}
-use Rattle.isotonic.proofs.Scales.{level-bounds, level-from}
+use Rattle.isotonic.proofs.Scales.{level-bounds, level-from, value-level}
+use Rattle.measures.specs.Values.{distance}
 
 -- the last place
 abbrev pub top : ℕ
@@ -34,3 +36,10 @@ at-le m n h = omega (arith, ints)
 pub between-levels : (p u v : ℤ) → Level p → Level v → Lies-between p u v → Level u
 between-levels p u v lp lv (inl h) = level-from u (omega (arith, ints, level-bounds p lp, h .0)) (omega (arith, ints, level-bounds v lv, h .1))
 between-levels p u v lp lv (inr h) = level-from u (omega (arith, ints, level-bounds v lv, h .0)) (omega (arith, ints, level-bounds p lp, h .1))
+
+-- a value on the scale lies within the scale of any level
+pub distance-within : (r : Reading) (v : ℤ) → OnScale r → Level v → distance (r .value) v ≤ top
+distance-within r v scaled level =
+    let x = level-bounds (r .value) (value-level r scaled) in
+    let y = level-bounds v level in
+    omega (arith, ints)
