@@ -49,12 +49,12 @@ largest-joined xs ys v all-x all-y level = departs-joined xs ys v
 pub largest-bounded : One-departs-within largest-departs
 largest-bounded r v scaled level = omega (arith, distance-within r v scaled level)
 
--- no value lies farther off than the largest distance
+-- whatever bounds the largest distance bounds the distance of every value
 departs-bounds : (rs : List Reading) (v : ℤ) (m : ℕ) → largest-departs rs v ≤ m → All (λ x. distance x v ≤ m) (values rs)
 departs-bounds [] v m h = tt
 departs-bounds (r ∷ rs) v m h = (omega arith, departs-bounds rs v m (omega arith))
 
--- and that distance is reached
+-- and whatever bounds the distance of every value bounds the largest
 departs-least : (rs : List Reading) (v : ℤ) (m : ℕ) → All (λ x. distance x v ≤ m) (values rs) → largest-departs rs v ≤ m
 departs-least [] v m all = omega arith
 departs-least (r ∷ rs) v m all = omega (arith, all .0, departs-least rs v m (all .1))

@@ -55,7 +55,7 @@ total-step (r ∷ rs) n =
     omega
     (arith, sumBy-cons (λ s. absolute-cost s (at n)) r rs, sumBy-cons (λ s. absolute-cost s (at (suc n))) r rs, sumBy-cons (λ s. s .weight) r rs, sumBy-cons (λ s. counted s (at n)) r rs)
 
--- a higher level counts no less
+-- over a higher level a lower value of the same weight counts no less
 counted-rises : (r s : Reading) (u v : ℤ) → r .weight ≡ s .weight → u ≤ℤ v → r .value ≤ℤ s .value → counted s u ≤ counted r v
 counted-rises r s u v same h k =
     by-ltZ u (s .value)
@@ -75,7 +75,7 @@ absolute-small r v scaled level = omega (arith, mul-le-mul (weight-bounds r scal
 
 -- ---- what is preferred: the first level that reaches half of the weight
 
--- going up to v adds nothing to the weight unless v is a value
+-- z is not above any value that passes: then it is not above v, if v passes and is a value; else going up to v adds nothing to the weight
 up-to-step :
     (rs : List Reading) (v z : ℤ) (p : ℤ → Bool) → p v ≡ true → All (λ y. z ≤ℤ y) (kept-by p (values rs))
     → (z ≤ℤ v) ⊎ (weight-up-to rs v ≡ weight-up-to rs (v -ℤ pos 1))
