@@ -1,4 +1,6 @@
 // The worked figures and the limits of the three measures, run and printed.
+#![tactic(auto)]
+
 mod limits;
 mod worked;
 

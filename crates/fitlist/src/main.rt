@@ -1,4 +1,6 @@
 // fitlist: a measure letter and a stored profile from standard input, their listing to standard output.
+#![tactic(auto)]
+
 use listing::listing;
 use std::alloc::Global;
 use std::io;

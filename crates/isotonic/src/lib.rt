@@ -1,4 +1,6 @@
 // What a measure is: how far readings depart from a level, and the level that they prefer.
+#![tactic(auto)]
+
 mod answers;
 mod measure;
 mod stretches;

@@ -1,4 +1,6 @@
 // The listing of a stored profile under a measure, as bytes.
+#![tactic(auto)]
+
 mod export;
 mod letters;
 mod page;

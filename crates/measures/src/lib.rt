@@ -1,4 +1,6 @@
 // The three measures: A adds weighted distances, S adds weighted squares, L takes the largest distance.
+#![tactic(auto)]
+
 mod absolute;
 mod costs;
 mod largest;

@@ -1,4 +1,6 @@
 // Readings and their scale, refusals, lists of readings, and bounded lists over a caller's slice.
+#![tactic(auto)]
+
 mod list;
 mod refusals;
 mod scale;

@@ -1,4 +1,6 @@
 // The stored form of a list of readings: two sizes, then the values, then the weights, two bytes each.
+#![tactic(auto)]
+
 mod columns;
 mod reads;
 mod words;

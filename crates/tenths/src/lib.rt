@@ -1,4 +1,6 @@
 // An example of a measure supplied from outside: L, with its departures told in whole tenths of a decibel.
+#![tactic(auto)]
+
 ghost use Rattle.std.specs.Prelude.{◌≡◌, max, refl};
 ghost use Rattle.isotonic.specs.Answers.{combination_answer, departure_answer, preferred_answer};
 ghost use Rattle.measures.specs.Largest.{largest_prefers};

@@ -1,4 +1,6 @@
 // Runs the listing, the stored form and the measures on good, bad and random input, and prints what they answer and write.
+#![tactic(auto)]
+
 mod counts;
 mod damage;
 mod measured;
