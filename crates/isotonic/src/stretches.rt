@@ -16,7 +16,7 @@ pub fn stretch_departure<M: Measure>(
     last: usize,
     level: i32,
 ) -> Option<u64>
-    ensures value { result ≡ departure_answer (departs measure) (stretch list.entry.rows.now first last) level }
+    ensures value { result ≡ departure_answer (M.departs measure) (stretch list.entry.rows.now first last) level }
     ensures within { (d : ℕ) → result ≡ Some d → d ≤ one_most * length (stretch list.entry.rows.now first last) }
 {
     let own = measure;

@@ -25,7 +25,7 @@ pub(crate) trait Cost: Copy {
 pub(crate) fn added<C: Cost>(cost: C, list: Readings<'_>, level: i32) -> u64
     requires few { length list.rows.now ≤ limit }
     requires level { Level level }
-    ensures { result ≡ total (costs cost) list.entry.rows.now level }
+    ensures { result ≡ total (C.costs cost) list.entry.rows.now level }
 {
     let rows = list.rows();
     let mut sum = 0;
@@ -37,7 +37,7 @@ pub(crate) fn added<C: Cost>(cost: C, list: Readings<'_>, level: i32) -> u64
 
 // That sum as a departure.
 pub(crate) fn added_departure<C: Cost>(cost: C, list: Readings<'_>, level: i32) -> Option<u64>
-    ensures { result ≡ departure_answer (total (costs cost)) list.entry.rows.now level }
+    ensures { result ≡ departure_answer (total (C.costs cost)) list.entry.rows.now level }
 {
     if !has_departure(list, level) {
         return None;

@@ -96,11 +96,11 @@ fn a_full_list_refuses_and_stays(rt: HostRuntime) {
     );
     assert_eq!(rt; list.count(), 1);
     assert_eq!(rt; list.extend(&[2]), Ok(2));
-    assert_eq!(rt; list.entries(), &[1, 2]);
+    assert_eq!(rt; list.entries(), [1, 2].as_slice());
     assert_eq!(rt; list.push(3), Ok(3));
     assert_eq!(rt; list.push(4), Err(Refusal::TooLittleRoom { needed: 4 }));
     let back: &[u8] = list.into_slots();
-    assert_eq!(rt; back, &[1, 2, 3]);
+    assert_eq!(rt; back, [1, 2, 3].as_slice());
 }
 
 #[test]

@@ -16,10 +16,10 @@ loop-i-preserved g c =
     let room : c.args.self.now.count + length c.args.entries.now ≤ length c.args.self.now.slots.now = omega arith in
     (c.loop-i.invariant.0, copied_more _ _ _ room _ _ c.loop-i.invariant.1 _ c.loop-i-test.true c.index-entries-i.is)
 
-pub invariant-of-self-2 : goal.invariant-of-self-2
-invariant-of-self-2 g c =
+pub invariant_of-self-2 : goal.invariant_of-self-2
+invariant_of-self-2 g c =
     let room : c.args.self.now.count + length c.args.entries.now ≤ length c.args.self.now.slots.now = omega arith in
-    (omega (arith, copied_length _ _ _ room _ _ c.loop-i.invariant.1 (omega arith)), tt)
+    record { within = omega (arith, copied_length _ _ _ room _ _ c.loop-i.invariant.1 (omega arith)) }
 
 pub returns : goal.returns
 returns g c =
