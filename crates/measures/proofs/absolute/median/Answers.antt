@@ -8,9 +8,9 @@ use Rattle.measures.specs.Medians.{all_below, counted_small, median_preferred, u
 use Rattle.measures.specs.Places.{at, at_le}
 use Rattle.measures.proofs.absolute.median.Goals as goal
 
-pub overflow-mul-added : goal.overflow-mul-added
-overflow-mul-added c =
-    let level = to_z w32 (of_z w32 c.level-at.result) in
+pub overflow_mul-added : goal.overflow_mul-added
+overflow_mul-added c =
+    let level = to_z w32 (of_z w32 c.level_at.result) in
     let rows = c.args.list.rows.now in
     let all = all_scaled rows c.args.list.scaled in
     omega (arith, sum_within (λ r. counted r level) 1000 (λ r scaled. counted_small r level scaled) rows all, c.added.ensures, c.requires.few)
@@ -19,7 +19,7 @@ pub loop-low-preserved : goal.loop-low-preserved
 loop-low-preserved c =
     let rows = c.args.list.rows.now in
     let middle = c.loop-low.low + (c.loop-low.high - c.loop-low.low) / 2 in
-    let there : to_z w32 (of_z w32 c.level-at.result) ≡ at middle = to_z-of_z w32 c.level-at.result (record { sfits = c.level-at.type-inv }) ∙ c.level-at.ensures in
+    let there : to_z w32 (of_z w32 c.level_at.result) ≡ at middle = to_z-of_z w32 c.level_at.result (record { sfits = c.level_at.type_inv }) ∙ c.level_at.ensures in
     let light : c.added.result ≡ weight_up_to rows (at middle) = c.added.ensures ∙ ap (weight_up_to rows) there in
     (omega arith, c.loop-low.invariant.1, c.loop-low.invariant.2, λ n h. omega (arith, up_to_rises rows (at n) (at middle) (at_le n middle (omega arith)), light, c.if-added-whole.false))
 
@@ -31,7 +31,7 @@ returns c =
     let whole : c.added-whole.result ≡ whole_weight rows = omega (arith, c.added-whole.ensures, all_below rows all) in
     let met : c.loop-low.high ≡ c.loop-low.low = omega arith in
     let reached : c.added-whole.result ≤ 2 * weight_up_to rows (at c.loop-low.low) = subst (λ n. c.added-whole.result ≤ 2 * weight_up_to rows (at n)) met inv.2 in
-    to_z-of_z w32 c.level-at-2.result (record { sfits = c.level-at-2.type-inv })
-    ∙ c.level-at-2.ensures
+    to_z-of_z w32 c.level_at-2.result (record { sfits = c.level_at-2.type_inv })
+    ∙ c.level_at-2.ensures
     ∙ median_preferred rows c.loop-low.low all c.requires.some
     (record { within = omega arith; reached = omega arith; missed = λ n h. omega (arith, inv.3 n h, whole) })

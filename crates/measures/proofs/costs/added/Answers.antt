@@ -10,8 +10,8 @@ use Rattle.measures.specs.Values.{total}
 use Rattle.measures.proofs.Loops.{next_within}
 use Rattle.measures.proofs.costs.added.Goals as goal
 
-pub overflow-add-sum : goal.overflow-add-sum
-overflow-add-sum g c =
+pub overflow_add-sum : goal.overflow_add-sum
+overflow_add-sum g c =
     let level = to_z w32 (of_z w32 c.args.level) in
     let rows = c.rows-rows.result.now in
     let same = to_z-of_z w32 c.args.level c.ranges.level in

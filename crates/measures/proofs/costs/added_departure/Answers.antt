@@ -10,5 +10,5 @@ returns g c =
     let rows = c.args.list.rows.now in
     let dep = total (g.C.Cost.costs c.args.cost) in
     let same = to_z-of_z w32 c.args.level c.ranges.level in
-    let there = subst (λ v. has_departure rows v ≡ true) same (sym c.has_departure.ensures ∙ c.if-not-has-departure.false) in
+    let there = subst (λ v. has_departure rows v ≡ true) same (sym c.has_departure.ensures ∙ c.if-not-has_departure.false) in
     given (has_departure rows c.args.level) (dep rows c.args.level) c.added.result there (c.added.ensures ∙ ap (dep rows) same)

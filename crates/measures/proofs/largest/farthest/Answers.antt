@@ -10,7 +10,7 @@ loop-row-preserved c =
     let more =
     departs_more c.rows-rows.result.now c.loop-row.row-index (record { value = pos 0; weight = 0 }) (to_z w32 (of_z w32 c.args.level))
     c.loop-row-test.true in
-    omega (arith, more, c.max-most.ensures, c.distance-from.ensures, c.loop-row.invariant)
+    omega (arith, more, c.max-most.ensures, c.distance_from.ensures, c.loop-row.invariant)
 
 pub returns : goal.returns
 returns c =

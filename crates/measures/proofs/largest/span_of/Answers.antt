@@ -23,8 +23,8 @@ loop-row-preserved c =
     let scaled = subst Scaled (sym c.rows-rows.ensures) c.args.list.scaled i none here in
     let value = (get_or rows i none).value in
     let same = to_z-of_z w32 value (level_fits value (value_level (get_or rows i none) scaled)) in (
-      fold_step int_min (pos 30000) rows i none _ _ _ here c.loop-row.invariant.0 same (to_z-of_z w32 c.min-low.result (record { sfits = c.min-low.type-inv }) ∙ c.min-low.ensures.value),
-      fold_step int_max (negsuc 29999) rows i none _ _ _ here c.loop-row.invariant.1 same (to_z-of_z w32 c.max-high.result (record { sfits = c.max-high.type-inv }) ∙ c.max-high.ensures.value),
+      fold_step int_min (pos 30000) rows i none _ _ _ here c.loop-row.invariant.0 same (to_z-of_z w32 c.min-low.result (record { sfits = c.min-low.type_inv }) ∙ c.min-low.ensures.value),
+      fold_step int_max (negsuc 29999) rows i none _ _ _ here c.loop-row.invariant.1 same (to_z-of_z w32 c.max-high.result (record { sfits = c.max-high.type_inv }) ∙ c.max-high.ensures.value),
     )
 
 pub returns : goal.returns

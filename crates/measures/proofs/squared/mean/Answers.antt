@@ -17,23 +17,23 @@ bounds c =
     let same = c.weigh-whole.ensures in
     (omega (arith, whole_positive rows all c.requires.some), omega (arith, sum_within (λ r. r.weight) 1000 weight_small rows all), omega (arith, places_within rows all))
 
-pub overflow-mul-sum : goal.overflow-mul-sum
-overflow-mul-sum c = omega (arith, bounds c, c.requires.few)
+pub overflow_mul-sum : goal.overflow_mul-sum
+overflow_mul-sum c = omega (arith, bounds c, c.requires.few)
 
-pub overflow-add-sum : goal.overflow-add-sum
-overflow-add-sum c = omega (arith, bounds c, c.requires.few)
+pub overflow_add-sum : goal.overflow_add-sum
+overflow_add-sum c = omega (arith, bounds c, c.requires.few)
 
-pub overflow-sub-sum : goal.overflow-sub-sum
-overflow-sub-sum c = omega (arith, bounds c)
+pub overflow_sub-sum : goal.overflow_sub-sum
+overflow_sub-sum c = omega (arith, bounds c)
 
-pub overflow-mul-whole : goal.overflow-mul-whole
-overflow-mul-whole c = omega (arith, bounds c, c.requires.few)
+pub overflow_mul-whole : goal.overflow_mul-whole
+overflow_mul-whole c = omega (arith, bounds c, c.requires.few)
 
-pub nonzero-div-sum : goal.nonzero-div-sum
-nonzero-div-sum c = omega (arith, bounds c)
+pub nonzero_div-sum : goal.nonzero_div-sum
+nonzero_div-sum c = omega (arith, bounds c)
 
-pub level-at-requires : goal.level-at-requires
-level-at-requires c =
+pub level_at-requires : goal.level_at-requires
+level_at-requires c =
     let rows = c.args.list.rows.now in
     (quotient_preferred rows (all_scaled rows c.args.list.scaled) c.requires.some _ _ _ c.weigh-whole.ensures.sum c.weigh-whole.ensures.whole refl).0
 
@@ -42,4 +42,4 @@ returns c =
     let rows = c.args.list.rows.now in
     let preferred =
     quotient_preferred rows (all_scaled rows c.args.list.scaled) c.requires.some _ _ _ c.weigh-whole.ensures.sum c.weigh-whole.ensures.whole refl in
-    to_z-of_z w32 c.level-at.result (record { sfits = c.level-at.type-inv }) ∙ c.level-at.ensures ∙ preferred.1
+    to_z-of_z w32 c.level_at.result (record { sfits = c.level_at.type_inv }) ∙ c.level_at.ensures ∙ preferred.1

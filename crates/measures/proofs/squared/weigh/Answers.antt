@@ -14,28 +14,28 @@ use Rattle.measures.proofs.squared.weigh.Goals as goal
 abbrev none : Reading
 none = record { value = pos 0; weight = 0 }
 
-pub overflow-add-whole : goal.overflow-add-whole
-overflow-add-whole c =
+pub overflow_add-whole : goal.overflow_add-whole
+overflow_add-whole c =
     let rows = c.rows-rows.result.now in
     let all = all_scaled rows (subst Scaled (sym c.rows-rows.ensures) c.args.list.scaled) in
     let next = next_within (λ r. r.weight) 1000 weight_small rows all c.loop-row.row-index none c.loop-row-test.true in
     omega (arith, next, c.from-whole.ensures, c.loop-row.invariant.0, c.requires, ap length c.rows-rows.ensures)
 
-pub overflow-add-sum : goal.overflow-add-sum
-overflow-add-sum c =
+pub overflow_add-sum : goal.overflow_add-sum
+overflow_add-sum c =
     let rows = c.rows-rows.result.now in
     let all = all_scaled rows (subst Scaled (sym c.rows-rows.ensures) c.args.list.scaled) in
     let next =
     next_within (λ r. r.weight * place_of r) 60_000_000 (λ r scaled. mul-le-mul (weight_small r scaled) (place_within r scaled)) rows all c.loop-row.row-index none
     c.loop-row-test.true in
-    omega (arith, next, c.weighted-place-sum.ensures, c.loop-row.invariant.1, c.requires, ap length c.rows-rows.ensures)
+    omega (arith, next, c.weighted_place-sum.ensures, c.loop-row.invariant.1, c.requires, ap length c.rows-rows.ensures)
 
 pub loop-row-preserved : goal.loop-row-preserved
 loop-row-preserved c =
     let rows = c.rows-rows.result.now in
     let weights = sum_by_more (λ r. r.weight) rows c.loop-row.row-index none c.loop-row-test.true in
     let places = sum_by_more (λ r. r.weight * place_of r) rows c.loop-row.row-index none c.loop-row-test.true in
-    (omega (arith, weights, c.from-whole.ensures, c.loop-row.invariant.0), omega (arith, places, c.weighted-place-sum.ensures, c.loop-row.invariant.1))
+    (omega (arith, weights, c.from-whole.ensures, c.loop-row.invariant.0), omega (arith, places, c.weighted_place-sum.ensures, c.loop-row.invariant.1))
 
 pub returns : goal.returns
 returns c =
