@@ -6,7 +6,7 @@ use Rattle.listing.proofs.prints.print.Goals as goal
 pub returns : goal.returns
 returns c =
     let text = heading c.args.letter c.args.readings in
-    let printed = c.put-heading.ensures in
+    let printed = c.put_heading.ensures in
     record {
       value = c.count.ensures ∙ printed_count _ _ text printed c.new-page.ensures.count (heading_short c.args.letter c.args.readings c.ranges.readings.fits);
       after = λ h.

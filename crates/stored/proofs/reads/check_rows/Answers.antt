@@ -8,21 +8,21 @@ use Rattle.stored.proofs.reads.check_rows.Goals as goal
 pub loop-i-init : goal.loop-i-init
 loop-i-init c = none_so_far (stored_rows c.args.count c.args.rest.now)
 
-pub returns-in-err-admit : goal.returns-in-err-admit
-returns-in-err-admit c =
-    let p = err_from_is_err_and c.from-residual.result c.from-residual.ensures.1 in
+pub returns-in_err-admit : goal.returns-in_err-admit
+returns-in_err-admit c =
+    let p = err_from_is_err_and c.from_residual.result c.from_residual.ensures.1 in
     let long = length_rows c.args.count c.args.rest.now c.requires in
     let within : c.loop-i.i < length (stored_rows c.args.count c.args.rest.now) = omega arith in
-    let e = c.row-at.ensures c.row-at.result in
-    let all = refused_here _ _ c.row-at.result within c.loop-i.invariant _ (c.in-err-admit.ensures ∙ ap (λ r. admitted r (c.loop-i.i + 1)) e) in
+    let e = c.row_at.ensures c.row_at.result in
+    let all = refused_here _ _ c.row_at.result within c.loop-i.invariant _ (c.in_err-admit.ensures ∙ ap (λ r. admitted r (c.loop-i.i + 1)) e) in
     rw (p.1, p.2) (rw all)
 
 pub loop-i-preserved : goal.loop-i-preserved
 loop-i-preserved c =
     let long = length_rows c.args.count c.args.rest.now c.requires in
     let within : c.loop-i.i < length (stored_rows c.args.count c.args.rest.now) = omega arith in
-    let e = c.row-at.ensures c.row-at.result in
-    admitted_more _ _ c.row-at.result within c.loop-i.invariant _ (c.in-ok-admit.ensures ∙ ap (λ r. admitted r (c.loop-i.i + 1)) e)
+    let e = c.row_at.ensures c.row_at.result in
+    admitted_more _ _ c.row_at.result within c.loop-i.invariant _ (c.in_ok-admit.ensures ∙ ap (λ r. admitted r (c.loop-i.i + 1)) e)
 
 pub returns : goal.returns
 returns c =

@@ -12,8 +12,8 @@ pub loop-i-preserved : goal.loop-i-preserved
 loop-i-preserved c =
     let long = length_rows c.args.count c.args.rest.now c.requires.long in
     let room : 0 + length (stored_rows c.args.count c.args.rest.now) ≤ length c.args.into.now = omega arith in
-    ap (λ k. set c.loop-i.into k c.row-at.result) (sym (zero-add c.loop-i.i))
-    ∙ copied_more c.args.into.now 0 (stored_rows c.args.count c.args.rest.now) room c.loop-i.into c.loop-i.i c.loop-i.invariant c.row-at.result (omega arith) (c.row-at.ensures c.row-at.result)
+    ap (λ k. set c.loop-i.into k c.row_at.result) (sym (zero-add c.loop-i.i))
+    ∙ copied_more c.args.into.now 0 (stored_rows c.args.count c.args.rest.now) room c.loop-i.into c.loop-i.i c.loop-i.invariant c.row_at.result (omega arith) (c.row_at.ensures c.row_at.result)
 
 pub returns : goal.returns
 returns c =

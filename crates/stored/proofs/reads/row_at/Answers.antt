@@ -7,9 +7,9 @@ use Rattle.stored.proofs.reads.row_at.Goals as goal
 
 pub returns : goal.returns
 returns c d =
-    let z = c.cast-signed-value.result in
-    let narrow : SFits w16 z = record { sfits = c.cast-signed-value.type-inv } in
+    let z = c.cast_signed-value.result in
+    let narrow : SFits w16 z = record { sfits = c.cast_signed-value.type_inv } in
     let wide : SFits w32 z = record { sfits = omega arith } in
     let v : z ≡ from_complement (word_at c.args.rest.now c.args.i) =
-    c.cast-signed-value.ensures ∙ complement_is c.word-at.result ∙ rw c.word-at.ensures in
-    rw (to_z-of_z w16 z narrow, to_z-of_z w32 z wide, v, c.word-at-weight.ensures) (sym (rows_at c.args.count c.args.rest.now c.requires.long c.args.i d c.requires.within))
+    c.cast_signed-value.ensures ∙ complement_is c.word_at.result ∙ rw c.word_at.ensures in
+    rw (to_z-of_z w16 z narrow, to_z-of_z w32 z wide, v, c.word_at-weight.ensures) (sym (rows_at c.args.count c.args.rest.now c.requires.long c.args.i d c.requires.within))

@@ -14,7 +14,7 @@ pub loop-i-preserved : goal.loop-i-preserved
 loop-i-preserved c =
     let rows = c.rows-rows.result.now in
     let room : 2 * (c.args.at + length rows) ≤ length c.args.into.now = omega (arith, ap length c.rows-rows.ensures) in
-    c.put-word.ensures
+    c.put_word.ensures
     ∙ ap (λ k. put_from (2 * (c.args.at + c.loop-i.i)) (split k) c.loop-i.into) c.cell.ensures
     ∙ column_laid c.args.column rows c.args.into.now c.loop-i.into c.args.at c.loop-i.i _ c.loop-i-test.true room c.loop-i.invariant
 

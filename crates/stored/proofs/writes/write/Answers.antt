@@ -27,7 +27,7 @@ returns c =
     let granted : storable rs ≡ Ok (encoded rs) = cond-true (leb (length rs) limit) _ _ (le-leb _ _ few) in
     let counted : n ≡ length (encoded rs) = omega (arith, length_encoded rs) in
     let fits = delivery_fits (storable rs) (encoded rs) granted n counted c.args.into.now room in
-    let after : c.put-column-2.new.into ≡ put_from 0 (encoded rs) c.args.into.now =
-    whole_laid rs k c.args.into.now _ _ _ _ c.len-count.ensures room c.put-word.ensures c.put-word-2.ensures c.put-column.ensures c.put-column-2.ensures in
+    let after : c.put_column-2.new.into ≡ put_from 0 (encoded rs) c.args.into.now =
+    whole_laid rs k c.args.into.now _ _ _ _ c.len-count.ensures room c.put_word.ensures c.put_word-2.ensures c.put_column.ensures c.put_column-2.ensures in
     let back = ap decoded (ap (take n) after ∙ take_put (encoded rs) c.args.into.now n counted room) in
     record { value = fits.0; after = after ∙ fits.1; reads_back = back ∙ reads_back rs c.args.list.scaled few }

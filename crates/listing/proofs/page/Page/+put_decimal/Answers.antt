@@ -9,4 +9,4 @@ returns-then-number-lt10 t c = printed_as _ _ _ _ (sym (decimal_digit c.args.num
 pub returns : goal.returns
 returns t c =
     printed_as _ _ _ _ (sym (decimal_step c.args.number c.if-number-lt10.false c.ranges.number.fits))
-    (printed_then _ _ _ _ _ c.put-decimal.ensures c.put-2.ensures)
+    (printed_then _ _ _ _ _ c.put_decimal.ensures c.put-2.ensures)

@@ -9,13 +9,13 @@ pub returns-then-to-self : goal.returns-then-to-self
 returns-then-to-self c =
     let page = c.args.self.now in
     let text = c.args.text.now in
-    let size : length text ≡ c.saturating-add-to.result - page.count = omega arith in
+    let size : length text ≡ c.saturating_add-to.result - page.count = omega arith in
     let room : page.count + length text ≤ length page.bytes.now = omega arith in
-    let is : put_mid page.count (c.saturating-add-to.result - page.count) page.bytes.now c.copy-from-slice.new.self ≡ put_from page.count text page.bytes.now =
-    put_mid-paste page.count _ page.bytes.now _ text (length text) c.copy-from-slice.ensures.after size refl ∙ put_all page.bytes.now page.count text (length text) room refl in
+    let is : put_mid page.count (c.saturating_add-to.result - page.count) page.bytes.now c.copy_from_slice.new.self ≡ put_from page.count text page.bytes.now =
+    put_mid-paste page.count _ page.bytes.now _ text (length text) c.copy_from_slice.ensures.after size refl ∙ put_all page.bytes.now page.count text (length text) room refl in
     record {
       lender = refl;
       room = ap length is ∙ length_put page.count text page.bytes.now;
-      count = c.saturating-add-to.ensures;
+      count = c.saturating_add-to.ensures;
       bytes = λ _. (omega arith, is);
     }
