@@ -1,1 +1,2 @@
 pub mod Tenth
+pub mod Tenfold

@@ -5,9 +5,9 @@ ghost use Rattle.std.specs.Prelude.{◌≡◌, max, refl};
 ghost use Rattle.isotonic.specs.Answers.{combination_answer, departure_answer, preferred_answer};
 ghost use Rattle.measures.specs.Largest.{largest_prefers};
 ghost use Rattle.tenths.specs.Tenth.{tenths_departs};
-ghost use Rattle.std.proofs.Common.{arith};
-ghost use Rattle.measures.specs.Farthest.{departs_joined, larger_combines, largest_bounded};
-ghost use Rattle.measures.specs.Middles.{largest_nearer, largest_between, largest_raised};
+ghost use Rattle.measures.specs.Farthest.{larger_combines};
+ghost use Rattle.measures.specs.Middles.{largest_between, largest_raised};
+ghost use Rattle.tenths.specs.Tenfold.{tenths_bounded, tenths_joined, tenths_nearer};
 
 use isotonic::Measure;
 use measures::Largest;
@@ -26,13 +26,13 @@ impl Measure for Tenths {
 
     ghost empty = { λ m v level. refl };
 
-    ghost joined = { λ m xs ys v all_x all_y level. omega (arith, departs_joined xs ys v) };
+    ghost joined = { λ m. tenths_joined };
 
     ghost combining = { λ m. larger_combines };
 
-    ghost bounded = { λ m r v scaled level. omega (arith, largest_bounded r v scaled level) };
+    ghost bounded = { λ m. tenths_bounded };
 
-    ghost nearer = { λ m xs all some. ((largest_nearer xs all some).0, λ u v level lies. omega (arith, (largest_nearer xs all some).1 u v level lies)) };
+    ghost nearer = { λ m. tenths_nearer };
 
     ghost between = { λ m. largest_between };
 
