@@ -46,9 +46,8 @@ fn declined(refusal: Refusal) -> Answer
     }
 }
 
-// As `listing`. The two slices may not overlap.
-#[unsafe(no_mangle)]
-pub extern "C" fn fit_listing(input: &[u8], output: &mut [u8]) -> Answer
+// As `listing`, in plain numbers. The crate `listing_c` exports it under this name.
+pub fn fit_listing(input: &[u8], output: &mut [u8]) -> Answer
     ensures value { result ≡ answer_of (delivered (listing_of input.now) output.old) }
     ensures after { output.new ≡ filled (listing_of input.now) output.old }
 {
