@@ -45,19 +45,34 @@ mod tests {
     #[test]
     fn takes_the_first_65_536_bytes_as_the_whole_input(rt: HostRuntime) -> Result<(), Fail> {
         let heap = rt.alloc();
-        assert_eq!(rt; printed(heap, 65_535)?.as_slice(), b"refused 9 65534\n");
-        assert_eq!(rt; printed(heap, 65_536)?.as_slice(), b"refused 9 65535\n");
-        assert_eq!(rt; printed(heap, 65_537)?.as_slice(), b"refused 9 65535\n");
-        assert_eq!(rt; printed(heap, 200_000)?.as_slice(), b"refused 9 65535\n");
+        assert_eq!(rt;
+            printed(heap, 65_535)?.as_slice(),
+            b"refused 9 65534\n".as_slice()
+        );
+        assert_eq!(rt;
+            printed(heap, 65_536)?.as_slice(),
+            b"refused 9 65535\n".as_slice()
+        );
+        assert_eq!(rt;
+            printed(heap, 65_537)?.as_slice(),
+            b"refused 9 65535\n".as_slice()
+        );
+        assert_eq!(rt;
+            printed(heap, 200_000)?.as_slice(),
+            b"refused 9 65535\n".as_slice()
+        );
         Ok(())
     }
 
     #[test]
     fn prints_a_listing_or_a_refusal(rt: HostRuntime) -> Result<(), Fail> {
         let heap = rt.alloc();
-        assert_eq!(rt; printed(heap, 0)?.as_slice(), b"refused 8 0\n");
-        assert_eq!(rt; printed(heap, 1)?.as_slice(), b"refused 9 0\n");
-        assert_eq!(rt; printed(heap, 5)?.as_slice(), b"measure A readings 0\n");
+        assert_eq!(rt; printed(heap, 0)?.as_slice(), b"refused 8 0\n".as_slice());
+        assert_eq!(rt; printed(heap, 1)?.as_slice(), b"refused 9 0\n".as_slice());
+        assert_eq!(rt;
+            printed(heap, 5)?.as_slice(),
+            b"measure A readings 0\n".as_slice()
+        );
         Ok(())
     }
 }

@@ -20,7 +20,7 @@ fn numbers_are_written_in_base_ten(rt: HostRuntime) {
     let text: &[u8] = &bytes;
     assert_eq!(rt;
         text,
-        b"0 9 -9 10 -30000 30000 -2147483648 18446744073709551615........."
+        b"0 9 -9 10 -30000 30000 -2147483648 18446744073709551615.........".as_slice()
     );
 }
 
@@ -33,7 +33,7 @@ fn a_page_counts_what_it_has_no_room_for(rt: HostRuntime) {
     page.put(b"f");
     assert_eq!(rt; page.count(), 6);
     let text: &[u8] = &bytes;
-    assert_eq!(rt; text, b"abc.");
+    assert_eq!(rt; text, b"abc.".as_slice());
 }
 
 #[test]
@@ -41,14 +41,14 @@ fn a_listing_fits_or_is_refused_whole(rt: HostRuntime) {
     let mut output = [b'.'; 22];
     assert_eq!(rt; listing(&SAMPLE, &mut output), Ok(21));
     let text: &[u8] = &output;
-    assert_eq!(rt; text, b"measure S readings 1\n.");
+    assert_eq!(rt; text, b"measure S readings 1\n.".as_slice());
     let mut output = [b'.'; 20];
     assert_eq!(rt;
         listing(&SAMPLE, &mut output),
         Err(Refusal::TooLittleRoom { needed: 21 })
     );
     let text: &[u8] = &output;
-    assert_eq!(rt; text, &[b'.'; 20]);
+    assert_eq!(rt; text, [b'.'; 20].as_slice());
 }
 
 #[test]

@@ -54,14 +54,14 @@ fn worked_bytes_are_written_and_read(rt: HostRuntime) {
     ];
     let mut bytes = [7u8; 14];
     assert_eq!(rt; write(Readings::of(&rows), &mut bytes), Ok(12));
-    assert_eq!(rt; &bytes[0..12], &WORKED);
-    assert_eq!(rt; &bytes[12..14], &[7, 7]);
+    assert_eq!(rt; &bytes[0..12], WORKED.as_slice());
+    assert_eq!(rt; &bytes[12..14], [7, 7].as_slice());
     let mut back = [Reading {
         value: 5,
         weight: 5,
     }; 3];
     assert_eq!(rt; read(&WORKED, &mut back), Ok(2));
-    assert_eq!(rt; &back[0..2], &rows);
+    assert_eq!(rt; &back[0..2], rows.as_slice());
     assert_eq!(rt;
         back[2],
         Reading {
@@ -88,7 +88,7 @@ fn want_of_room_changes_nothing(rt: HostRuntime) {
         write(Readings::of(&rows), &mut bytes),
         Err(Refusal::TooLittleRoom { needed: 12 })
     );
-    assert_eq!(rt; &bytes[0..11], &[7u8; 11]);
+    assert_eq!(rt; &bytes[0..11], [7u8; 11].as_slice());
     let mut back = [Reading {
         value: 5,
         weight: 5,
