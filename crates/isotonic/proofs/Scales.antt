@@ -4,11 +4,11 @@ use lib.Signed.{le_z}
 use Rattle.std.proofs.ByRecursion.{all_from_every}
 use Rattle.std.proofs.lemmas.Int.{ints}
 use Rattle.std.proofs.lemmas.Bool.{and_from, and_parts, leb-true}
-use Rattle.std.specs.List.{AllByRecursion as All}
+use Rattle.std.specs.List.{AllByRecursion}
 use Rattle.reading.specs.declared.scale.Reading.{Reading}
 use Rattle.reading.specs.Scale.{Level, OnScale, Scaled, is_level, is_weight}
 
-pub all_scaled : (rs : List Reading) → Scaled rs → All OnScale rs
+pub all_scaled : (rs : List Reading) → Scaled rs → AllByRecursion OnScale rs
 all_scaled rs scaled = all_from_every OnScale rs (λ k d low high. scaled k d high)
 
 -- a level lies on the scale of levels

@@ -1,7 +1,7 @@
 -- How far a list can depart at a level: by the bound of one reading, times its length.
 use Rattle.std.proofs.Common.{◌≡◌, ℕ, ◌*◌, ◌≤◌, leb, List, [], ◌∷◌, length, ℤ, Some, sym, arith}
 use Rattle.std.proofs.lemmas.Bool.{and_parts}
-use Rattle.std.specs.List.{AllByRecursion as All}
+use Rattle.std.specs.List.{AllByRecursion}
 use Rattle.reading.specs.declared.scale.Reading.{Reading}
 use Rattle.reading.specs.Scale.{Level, OnScale, is_level, limit}
 use Rattle.isotonic.specs.Answers.{departure_answer, has_departure}
@@ -11,7 +11,7 @@ use Rattle.isotonic.proofs.Given.{given_some}
 
 module _ (dep : List Reading → ℤ → ℕ) (comb : ℕ → ℕ → ℕ) (empty : EmptyDepartsByZero dep) (joined : JoinedDeparturesCombine dep comb)
     (combining : CombinesInAnyOrder comb) (bounded : OneDepartsWithin dep) where
-  pub departs_within : (rs : List Reading) (v : ℤ) → All OnScale rs → Level v → dep rs v ≤ one_most * length rs
+  pub departs_within : (rs : List Reading) (v : ℤ) → AllByRecursion OnScale rs → Level v → dep rs v ≤ one_most * length rs
   departs_within [] v all level = omega (arith, empty v level)
   departs_within (r ∷ rs) v all level =
       let rest = departs_within rs v all.1 level in
@@ -20,7 +20,7 @@ module _ (dep : List Reading → ℤ → ℕ) (comb : ℕ → ℕ → ℕ) (empt
       omega (arith, combining.at_most_sum (dep (r ∷ []) v) (dep rs v))
 
   -- so does what is answered for it
-  pub answer_within : (rs : List Reading) (v : ℤ) (d : ℕ) → All OnScale rs → departure_answer dep rs v ≡ Some d → d ≤ one_most * length rs
+  pub answer_within : (rs : List Reading) (v : ℤ) (d : ℕ) → AllByRecursion OnScale rs → departure_answer dep rs v ≡ Some d → d ≤ one_most * length rs
   answer_within rs v d all e =
       let told = given_some (has_departure rs v) (dep rs v) d e in
       let level = (and_parts (leb (length rs) limit) (is_level v) told.0).1 in

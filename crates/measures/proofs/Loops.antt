@@ -3,12 +3,12 @@ use Rattle.std.proofs.Common.{◌≡◌, ℕ, ◌+◌, ◌*◌, ◌<◌, ◌≤�
 use Rattle.std.proofs.ByRecursion.{All-weaker, sum_by_le}
 use Rattle.std.proofs.lemmas.List.{get_or-map, length-map}
 use Rattle.std.proofs.lemmas.List.Sums.{fold_more, sum_by_more, sum_by-take-le}
-use Rattle.std.specs.List.{AllByRecursion as All}
+use Rattle.std.specs.List.{AllByRecursion}
 use Rattle.reading.specs.declared.scale.Reading.{Reading}
 use Rattle.reading.specs.Scale.{OnScale}
 use Rattle.measures.specs.Values.{values}
 
-module _ (f : Reading → ℕ) (most : ℕ) (small : (r : Reading) → OnScale r → f r ≤ most) (rs : List Reading) (all : All OnScale rs) where
+module _ (f : Reading → ℕ) (most : ℕ) (small : (r : Reading) → OnScale r → f r ≤ most) (rs : List Reading) (all : AllByRecursion OnScale rs) where
   -- no sum passes the bound of one reading times their number
   pub sum_within : sum_by f rs ≤ length rs * most
   sum_within = sum_by_le f most rs (All-weaker OnScale (λ r. f r ≤ most) small rs all)

@@ -1,6 +1,6 @@
 -- The theorems on the three measures and on the words that define them. Assumes nothing.
 use Rattle.std.specs.Prelude.{◌≡◌, ℕ, ◌<◌, ◌≤◌, List, length, ℤ, pos, ◌*ℤ◌, ◌≤ℤ◌}
-use Rattle.std.specs.List.{ContainsAt as Has, AllByRecursion as All}
+use Rattle.std.specs.List.{ContainsAt, AllByRecursion}
 use Rattle.reading.specs.declared.scale.Reading.{Reading}
 use Rattle.reading.specs.Scale.{Level, OnScale}
 use Rattle.measures.specs.Absolute.{absolute_departs, absolute_prefers}
@@ -11,7 +11,7 @@ use Rattle.measures.specs.Values.{distance, floored, largest, nearest, smallest}
 -- what is preferred is the smallest of the levels at which a list departs by the least
 abbrev pub PrefersSmallestOfLeast : (List Reading → ℤ → ℕ) → (List Reading → ℤ) → Type 0
 PrefersSmallestOfLeast dep pref =
-    (xs : List Reading) → All OnScale xs → 0 < length xs → (v : ℤ) → Level v → (dep xs (pref xs) ≤ dep xs v) × (dep xs v ≡ dep xs (pref xs) → pref xs ≤ℤ v)
+    (xs : List Reading) → AllByRecursion OnScale xs → 0 < length xs → (v : ℤ) → Level v → (dep xs (pref xs) ≤ dep xs v) × (dep xs v ≡ dep xs (pref xs) → pref xs ≤ℤ v)
 
 -- so it is under A, S and L
 abbrev pub AllPreferSmallestOfLeast : Type 0
@@ -23,7 +23,7 @@ AllPreferSmallestOfLeast =
 abbrev pub ExtremesAreReached : Type 0
 ExtremesAreReached =
     (xs : List ℤ) → 0 < length xs
-    → Has xs (smallest xs) × All (λ x. smallest xs ≤ℤ x) xs × Has xs (largest xs) × All (λ x. x ≤ℤ largest xs) xs
+    → ContainsAt xs (smallest xs) × AllByRecursion (λ x. smallest xs ≤ℤ x) xs × ContainsAt xs (largest xs) × AllByRecursion (λ x. x ≤ℤ largest xs) xs
 
 -- n times the floored quotient is not above z, and of no larger whole number is that so
 abbrev pub FlooredIsLargestNotAbove : Type 0

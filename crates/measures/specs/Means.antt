@@ -5,7 +5,7 @@ use borrow.Author.Differences.{down, product_is, up}
 use Rattle.std.proofs.lemmas.Int.{ints}
 use Rattle.std.proofs.lemmas.List.Sums.{sum_by-cons}
 use Rattle.std.proofs.lemmas.Bool.{cases_Bool, cases_lt, cond-false, cond-true, leb-false, leb-true}
-use Rattle.std.specs.List.{AllByRecursion as All}
+use Rattle.std.specs.List.{AllByRecursion}
 use Rattle.reading.specs.declared.scale.Reading.{Reading}
 use Rattle.reading.specs.Scale.{Level, OnScale}
 use Rattle.isotonic.specs.Bounds.{one_most}
@@ -48,7 +48,7 @@ cost_step :
 cost_step r n scaled = omega (arith, ap (λ z. r.weight * z) (square_step r.value (place_of r) n (value_placed r scaled)))
 
 total_step :
-    (rs : List Reading) (n : ℕ) → All OnScale rs
+    (rs : List Reading) (n : ℕ) → AllByRecursion OnScale rs
     → placed_cost squared_cost rs (suc n) + 2 * weighted_places rs ≡ placed_cost squared_cost rs n + (2 * n + 1) * whole_weight rs
 total_step [] n all = omega arith
 total_step (r ∷ rs) n all =
@@ -109,7 +109,7 @@ nearest_mean z weight sum some shifted =
           (suc q, cond-false _ _ _ e ∙ next, mean_between sum weight (suc q) (omega arith) (omega arith))
     ]
 
-sum_shifted : (rs : List Reading) → All OnScale rs → weighted_sum rs +ℤ pos (30000 * whole_weight rs) ≡ pos (weighted_places rs)
+sum_shifted : (rs : List Reading) → AllByRecursion OnScale rs → weighted_sum rs +ℤ pos (30000 * whole_weight rs) ≡ pos (weighted_places rs)
 sum_shifted [] all = refl
 sum_shifted (r ∷ rs) all =
     let rest = sum_shifted rs all.1 in
@@ -119,13 +119,13 @@ sum_shifted (r ∷ rs) all =
     (arith, ints, product_is (pos r.weight) r.value, sum_by-cons (λ s. s.weight) r rs, sum_by-cons (λ s. s.weight * place_of s) r rs)
 
 -- no place in the list is above the last
-pub places_within : (rs : List Reading) → All OnScale rs → weighted_places rs ≤ top * whole_weight rs
+pub places_within : (rs : List Reading) → AllByRecursion OnScale rs → weighted_places rs ≤ top * whole_weight rs
 places_within [] all = omega arith
 places_within (r ∷ rs) all =
     omega
     (arith, places_within rs all.1, mul-le-mul_left r.weight (place_within r all.0), sum_by-cons (λ s. s.weight) r rs, sum_by-cons (λ s. s.weight * place_of s) r rs)
 
-module _ (rs : List Reading) (all : All OnScale rs) (some : 0 < length rs) where
+module _ (rs : List Reading) (all : AllByRecursion OnScale rs) (some : 0 < length rs) where
   -- what is preferred is the mean's place
   prefers_mean : (p : ℕ) × (squared_prefers rs ≡ at p) × Mean (weighted_places rs) (whole_weight rs) p
   prefers_mean = nearest_mean (weighted_sum rs) (whole_weight rs) (weighted_places rs) (whole_positive rs all some) (sum_shifted rs all)

@@ -5,7 +5,7 @@ use Rattle.std.proofs.ByRecursion.{all_kept_by, kept_by_passes}
 use Rattle.std.proofs.lemmas.Int.{ints, by_lt_z}
 use Rattle.std.proofs.lemmas.List.Sums.{sum_by-cons}
 use Rattle.std.proofs.lemmas.Bool.{both_ways, cases_lt, cond_both, cond-false, cond-true, leb-true, le-leb}
-use Rattle.std.specs.List.{AllByRecursion as All}
+use Rattle.std.specs.List.{AllByRecursion}
 use Rattle.reading.specs.declared.scale.Reading.{Reading}
 use Rattle.reading.specs.Scale.{Level, OnScale}
 use Rattle.isotonic.specs.Bounds.{one_most}
@@ -27,6 +27,9 @@ counted_above r v h = cond-false (int_le r.value v) r.weight 0 (grind (arith, in
 
 pub counted_small : (r : Reading) (v : ℤ) → OnScale r → counted r v ≤ 1000
 counted_small r v scaled = cond_both (int_le r.value v) r.weight 0 (λ w. w ≤ 1000) (λ e. (weight_bounds r scaled).1) (λ e. omega arith)
+
+pub counted_within : (r : Reading) (v : ℤ) → OnScale r → Level v → counted r v ≤ one_most
+counted_within r v scaled level = omega (arith, counted_small r v scaled)
 
 -- one level higher, a reading costs its weight more if its value is not above, and else its weight less
 cost_step : (r : Reading) (n : ℕ) → absolute_cost r (at (suc n)) + r.weight ≡ absolute_cost r (at n) + 2 * counted r (at n)
@@ -69,11 +72,11 @@ absolute_small r v scaled level = omega (arith, mul-le-mul (weight_bounds r scal
 
 -- z is not above any value that passes: then it is not above v, if v passes and is a value; else going up to v adds nothing to the weight
 up_to_step :
-    (rs : List Reading) (v z : ℤ) (p : ℤ → Bool) → p v ≡ true → All (λ y. z ≤ℤ y) (filter p (values rs))
+    (rs : List Reading) (v z : ℤ) (p : ℤ → Bool) → p v ≡ true → AllByRecursion (λ y. z ≤ℤ y) (filter p (values rs))
     → (z ≤ℤ v) ⊎ (weight_up_to rs v ≡ weight_up_to rs (v -ℤ pos 1))
 up_to_step [] v z p passes all = inr refl
 up_to_step (r ∷ rs) v z p passes all =
-    let rest : All (λ y. z ≤ℤ y) (filter p (values rs)) = kept_rest (p r.value) all in
+    let rest : AllByRecursion (λ y. z ≤ℤ y) (filter p (values rs)) = kept_rest (p r.value) all in
     ⊎_elim inl
     (λ e.
     by_lt_z r.value v
@@ -87,11 +90,11 @@ up_to_step (r ∷ rs) v z p passes all =
     (up_to_step rs v z p passes rest)
   where
     kept_rest :
-        (b : Bool) → All (λ y. z ≤ℤ y) (cond b (r.value ∷ filter p (values rs)) (filter p (values rs))) → All (λ y. z ≤ℤ y) (filter p (values rs))
+        (b : Bool) → AllByRecursion (λ y. z ≤ℤ y) (cond b (r.value ∷ filter p (values rs)) (filter p (values rs))) → AllByRecursion (λ y. z ≤ℤ y) (filter p (values rs))
     kept_rest true h = h.1
     kept_rest false h = h
 
-    kept_first : (b : Bool) → b ≡ true → All (λ y. z ≤ℤ y) (cond b (r.value ∷ filter p (values rs)) (filter p (values rs))) → z ≤ℤ r.value
+    kept_first : (b : Bool) → b ≡ true → AllByRecursion (λ y. z ≤ℤ y) (cond b (r.value ∷ filter p (values rs)) (filter p (values rs))) → z ≤ℤ r.value
     kept_first true e h = h.0
     kept_first false e h = absurd (both_ways false refl e)
 
@@ -99,13 +102,13 @@ up_to_step (r ∷ rs) v z p passes all =
     more e f = omega (arith, sum_by-cons (λ s. counted s v) r rs, sum_by-cons (λ s. counted s (v -ℤ pos 1)) r rs)
 
 -- no value lies below the lowest level, and none above the highest
-none_below : (rs : List Reading) → All OnScale rs → weight_up_to rs (at 0 -ℤ pos 1) ≡ 0
+none_below : (rs : List Reading) → AllByRecursion OnScale rs → weight_up_to rs (at 0 -ℤ pos 1) ≡ 0
 none_below [] all = refl
 none_below (r ∷ rs) all =
     let one = counted_above r (at 0 -ℤ pos 1) (omega (arith, ints, level_bounds r.value (value_level r all.0))) in
     omega (arith, none_below rs all.1, sum_by-cons (λ s. counted s (at 0 -ℤ pos 1)) r rs)
 
-pub all_below : (rs : List Reading) → All OnScale rs → weight_up_to rs (at top) ≡ whole_weight rs
+pub all_below : (rs : List Reading) → AllByRecursion OnScale rs → weight_up_to rs (at top) ≡ whole_weight rs
 all_below [] all = refl
 all_below (r ∷ rs) all =
     let one = counted_below r (at top) (omega (arith, ints, level_bounds r.value (value_level r all.0))) in
@@ -123,10 +126,10 @@ pub record Median (rs : List Reading) (p : ℕ) : Type 0 where
   pub reached : whole_weight rs ≤ 2 * weight_up_to rs (at p)
   pub missed : (n : ℕ) → n < p → 2 * weight_up_to rs (at n) < whole_weight rs
 
-module _ (rs : List Reading) (all : All OnScale rs) (some : 0 < length rs) where
+module _ (rs : List Reading) (all : AllByRecursion OnScale rs) (some : 0 < length rs) where
   -- what is below every value that reaches half is below every level that does
   bounds_halves :
-      (z : ℤ) → All (λ y. z ≤ℤ y) (filter (reaches_half rs) (values rs)) → (n : ℕ) → whole_weight rs ≤ 2 * weight_up_to rs (at n) → z ≤ℤ at n
+      (z : ℤ) → AllByRecursion (λ y. z ≤ℤ y) (filter (reaches_half rs) (values rs)) → (n : ℕ) → whole_weight rs ≤ 2 * weight_up_to rs (at n) → z ≤ℤ at n
   bounds_halves z low zero half =
       ⊎_elim (λ h. h)
       (λ e. absurd (omega (arith, whole_positive rs all some, none_below rs all)))
@@ -141,7 +144,7 @@ module _ (rs : List Reading) (all : All OnScale rs) (some : 0 < length rs) where
 
   some_kept : (ks : List ℤ) → ks ≡ filter (reaches_half rs) (values rs) → 0 < length ks
   some_kept [] e =
-      let high = bounds_halves (pos 30001) (subst (All (λ y. pos 30001 ≤ℤ y)) e tt) top (omega (arith, all_below rs all)) in
+      let high = bounds_halves (pos 30001) (subst (AllByRecursion (λ y. pos 30001 ≤ℤ y)) e tt) top (omega (arith, all_below rs all)) in
       absurd (omega (arith, ints, high))
   some_kept (k ∷ ks) e = omega arith
 
@@ -181,7 +184,7 @@ median_first rs p median =
     }
 
 -- so it is what is preferred
-pub median_preferred : (rs : List Reading) (p : ℕ) → All OnScale rs → 0 < length rs → Median rs p → at p ≡ absolute_prefers rs
+pub median_preferred : (rs : List Reading) (p : ℕ) → AllByRecursion OnScale rs → 0 < length rs → Median rs p → at p ≡ absolute_prefers rs
 median_preferred rs p all some median =
     let m = prefers_median rs all some in
     ap at (one_first (placed_cost absolute_cost rs) top p m.0 (median_first rs p median) (median_first rs m.0 m.2)) ∙ sym m.1

@@ -4,7 +4,7 @@ use Rattle.std.proofs.Common.{sym, subst, arith}
 use Rattle.std.proofs.ByRecursion.{All-map, All-weaker}
 use Rattle.std.proofs.lemmas.List.{length-map}
 use Rattle.std.proofs.lemmas.Int.{ints}
-use Rattle.std.specs.List.{AllByRecursion as All}
+use Rattle.std.specs.List.{AllByRecursion}
 use Rattle.reading.specs.declared.scale.Reading.{Reading}
 use Rattle.reading.specs.Scale.{Level, OnScale}
 use Rattle.isotonic.specs.Laws.{NowhereLower}
@@ -17,14 +17,14 @@ use Rattle.measures.specs.Places.{at, placed, top}
 pub some_values : (rs : List Reading) → 0 < length rs → 0 < length (values rs)
 some_values rs some = omega (arith, length-map rs (λ (r : Reading). r.value))
 
-pub values_levels : (rs : List Reading) → All OnScale rs → All Level (values rs)
+pub values_levels : (rs : List Reading) → AllByRecursion OnScale rs → AllByRecursion Level (values rs)
 values_levels rs all = All-map Level (λ r. r.value) rs (All-weaker OnScale (λ r. Level r.value) value_level rs all)
 
 -- no value is off the scale of levels
-pub values_below : (rs : List Reading) → All OnScale rs → All (λ x. x ≤ℤ pos 30000) (values rs)
+pub values_below : (rs : List Reading) → AllByRecursion OnScale rs → AllByRecursion (λ x. x ≤ℤ pos 30000) (values rs)
 values_below rs all = All-weaker Level (λ x. x ≤ℤ pos 30000) (λ x level. (level_bounds x level).1) (values rs) (values_levels rs all)
 
-pub values_above : (rs : List Reading) → All OnScale rs → All (λ x. negsuc 29999 ≤ℤ x) (values rs)
+pub values_above : (rs : List Reading) → AllByRecursion OnScale rs → AllByRecursion (λ x. negsuc 29999 ≤ℤ x) (values rs)
 values_above rs all = All-weaker Level (λ x. negsuc 29999 ≤ℤ x) (λ x level. (level_bounds x level).0) (values rs) (values_levels rs all)
 
 -- the smallest and the largest value, by their places
@@ -36,7 +36,7 @@ pub record Ends (rs : List Reading) : Type 0 where
   pub lowest : smallest (values rs) ≡ at low
   pub highest : largest (values rs) ≡ at high
 
-module _ (rs : List Reading) (all : All OnScale rs) (some : 0 < length rs) where
+module _ (rs : List Reading) (all : AllByRecursion OnScale rs) (some : 0 < length rs) where
   lowest_level : Level (smallest (values rs))
   lowest_level = smallest_holds Level (values rs) (some_values rs some) (values_levels rs all)
 
@@ -57,13 +57,13 @@ module _ (rs : List Reading) (all : All OnScale rs) (some : 0 < length rs) where
       record { low = a.0; high = b.0; ordered = omega (arith, ints, in_order, a.2, b.2); within = b.1; lowest = a.2; highest = b.2 }
 
 module _ (z : ℤ) where
-  raised_above : (xs ys : List Reading) → NowhereLower xs ys → All (λ x. z ≤ℤ x) (values xs) → All (λ y. z ≤ℤ y) (values ys)
+  raised_above : (xs ys : List Reading) → NowhereLower xs ys → AllByRecursion (λ x. z ≤ℤ x) (values xs) → AllByRecursion (λ y. z ≤ℤ y) (values ys)
   raised_above [] [] lower all = tt
   raised_above [] (y ∷ ys) lower all = absurd lower
   raised_above (x ∷ xs) [] lower all = absurd lower
   raised_above (x ∷ xs) (y ∷ ys) lower all = (omega (arith, ints, all.0, lower.0), raised_above xs ys lower.2 all.1)
 
-  raised_below : (xs ys : List Reading) → NowhereLower xs ys → All (λ y. y ≤ℤ z) (values ys) → All (λ x. x ≤ℤ z) (values xs)
+  raised_below : (xs ys : List Reading) → NowhereLower xs ys → AllByRecursion (λ y. y ≤ℤ z) (values ys) → AllByRecursion (λ x. x ≤ℤ z) (values xs)
   raised_below [] [] lower all = tt
   raised_below [] (y ∷ ys) lower all = absurd lower
   raised_below (x ∷ xs) [] lower all = absurd lower

@@ -5,7 +5,7 @@ use Rattle.std.proofs.ByRecursion.{All-append}
 use Rattle.std.proofs.lemmas.List.{length-append}
 use Rattle.std.proofs.lemmas.Int.{ints}
 use Rattle.std.proofs.lemmas.List.Sums.{sum_by-append, sum_by-cons}
-use Rattle.std.specs.List.{AllByRecursion as All}
+use Rattle.std.specs.List.{AllByRecursion}
 use Rattle.reading.specs.declared.scale.Reading.{Reading}
 use Rattle.reading.specs.Scale.{Level, OnScale}
 use Rattle.isotonic.specs.Bounds.{one_most}
@@ -44,7 +44,7 @@ CostShifts cost =
 -- what is preferred is the first level at which the total is least
 abbrev pub PrefersFirst : (Reading → ℤ → ℕ) → (List Reading → ℤ) → Type 0
 PrefersFirst cost pref =
-    (rs : List Reading) → All OnScale rs → 0 < length rs → (p : ℕ) × (pref rs ≡ at p) × First (placed_cost cost rs) top p
+    (rs : List Reading) → AllByRecursion OnScale rs → 0 < length rs → (p : ℕ) × (pref rs ≡ at p) × First (placed_cost cost rs) top p
 
 module _ (cost : Reading → ℤ → ℕ) where
   pub sum_empty : EmptyDepartsByZero (total cost)
@@ -56,7 +56,7 @@ module _ (cost : Reading → ℤ → ℕ) where
   pub sum_bounded : ((r : Reading) (v : ℤ) → OnScale r → Level v → cost r v ≤ one_most) → OneDepartsWithin (total cost)
   sum_bounded small r v scaled level = omega (arith, small r v scaled level)
 
-  pub total_bends : CostBends cost → (rs : List Reading) → All OnScale rs → Bends (placed_cost cost rs) top
+  pub total_bends : CostBends cost → (rs : List Reading) → AllByRecursion OnScale rs → Bends (placed_cost cost rs) top
   total_bends bends [] all n h = omega arith
   total_bends bends (r ∷ rs) all n h =
       let rest = total_bends bends rs all.1 n h in
@@ -65,7 +65,7 @@ module _ (cost : Reading → ℤ → ℕ) where
       (arith, sum_by-cons (λ s. cost s (at n)) r rs, sum_by-cons (λ s. cost s (at (suc n))) r rs, sum_by-cons (λ s. cost s (at (suc (suc n)))) r rs)
 
   total_shifts :
-      CostShifts cost → (xs ys : List Reading) → All OnScale xs → All OnScale ys → NowhereLower xs ys → (n : ℕ) → n < top
+      CostShifts cost → (xs ys : List Reading) → AllByRecursion OnScale xs → AllByRecursion OnScale ys → NowhereLower xs ys → (n : ℕ) → n < top
       → placed_cost cost ys (suc n) + placed_cost cost xs n ≤ placed_cost cost ys n + placed_cost cost xs (suc n)
   total_shifts shifts [] [] all_x all_y lower n h = omega arith
   total_shifts shifts [] (y ∷ ys) all_x all_y lower n h = absurd lower
@@ -79,7 +79,7 @@ module _ (cost : Reading → ℤ → ℕ) where
 module _ (cost : Reading → ℤ → ℕ) (pref : List Reading → ℤ) (bends : CostBends cost) (first : PrefersFirst cost pref) where
   -- the law on nearer levels, by places
   nearer_placed :
-      (rs : List Reading) (p a b : ℕ) (u v : ℤ) → All OnScale rs → First (placed_cost cost rs) top p → b ≤ top → u ≡ at a → v ≡ at b
+      (rs : List Reading) (p a b : ℕ) (u v : ℤ) → AllByRecursion OnScale rs → First (placed_cost cost rs) top p → b ≤ top → u ≡ at a → v ≡ at b
       → LiesBetween (at p) u v → total cost rs u ≤ total cost rs v
   nearer_placed rs p a b u v all best high eu ev (inl h) =
       rw (eu, ev)

@@ -2,14 +2,14 @@
 use Rattle.std.specs.Prelude.{◌<◌, ◌≤◌, List, [], ◌∷◌, length}
 use Rattle.std.proofs.Common.{arith}
 use Rattle.std.proofs.lemmas.List.Sums.{sum_by-cons}
-use Rattle.std.specs.List.{AllByRecursion as All}
+use Rattle.std.specs.List.{AllByRecursion}
 use Rattle.reading.specs.declared.scale.Reading.{Reading}
 use Rattle.reading.specs.Scale.{OnScale}
 use Rattle.isotonic.proofs.Scales.{weight_bounds}
 use Rattle.measures.specs.Values.{whole_weight}
 
 -- it is not 0 where there is a reading
-pub whole_positive : (rs : List Reading) → All OnScale rs → 0 < length rs → 0 < whole_weight rs
+pub whole_positive : (rs : List Reading) → AllByRecursion OnScale rs → 0 < length rs → 0 < whole_weight rs
 whole_positive [] all some = absurd (omega arith)
 whole_positive (r ∷ rs) all some = omega (arith, weight_bounds r all.0, sum_by-cons (λ s. s.weight) r rs)
 

@@ -3,9 +3,8 @@ ghost use Rattle.std.specs.Prelude.{◌≡◌, ◌+◌, ◌<◌, ◌≤◌, leng
 ghost use Rattle.isotonic.specs.Answers.{combination_answer, departure_answer, preferred_answer};
 ghost use Rattle.measures.specs.Absolute.{absolute_cost, absolute_departs, absolute_prefers, counted};
 ghost use Rattle.reading.specs.Scale.{limit};
-ghost use Rattle.std.proofs.Common.{rules};
 ghost use Rattle.measures.specs.Summed.{sum_empty, sum_joined, adding_combines, sum_bounded, sum_nearer, sum_between, sum_raised};
-ghost use Rattle.measures.specs.Medians.{absolute_small, absolute_bends, absolute_first, absolute_shifts};
+ghost use Rattle.measures.specs.Medians.{absolute_small, absolute_bends, absolute_first, absolute_shifts, counted_within};
 
 use crate::costs::{Cost, added, added_combination, added_departure};
 use crate::levels::{LAST_PLACE, distance_from, level_at};
@@ -20,7 +19,7 @@ pub struct Absolute;
 impl Cost for Absolute {
     ghost costs = { λ _. absolute_cost };
 
-    ghost small = { Prim.search rules };
+    ghost small = { λ c. absolute_small };
 
     fn cost(self, row: Reading, level: i32) -> u64 {
         u64::from(row.weight) * distance_from(row, level)
@@ -34,7 +33,7 @@ struct UpTo;
 impl Cost for UpTo {
     ghost costs = { λ _. counted };
 
-    ghost small = { Prim.search rules };
+    ghost small = { λ c. counted_within };
 
     fn cost(self, row: Reading, level: i32) -> u64 {
         if row.value <= level {
@@ -72,6 +71,7 @@ impl Measure for Absolute {
 
     ghost prefers = { λ _. absolute_prefers };
 
+    // The seven laws: its cost bends upwards, and the weighted median is the first level of least cost.
     ghost empty = { λ m. sum_empty absolute_cost };
 
     ghost joined = { λ m. sum_joined absolute_cost };

@@ -64,6 +64,7 @@ impl Measure for Largest {
 
     ghost prefers = { λ _. largest_prefers };
 
+    // The seven laws, from the two ends of the values.
     ghost empty = { λ m. largest_empty };
 
     ghost joined = { λ m. largest_joined };

@@ -84,6 +84,7 @@ impl Measure for Squared {
 
     ghost prefers = { λ _. squared_prefers };
 
+    // The seven laws: its cost bends upwards, and the whole number nearest the weighted mean is the first level of least cost.
     ghost empty = { λ m. sum_empty squared_cost };
 
     ghost joined = { λ m. sum_joined squared_cost };

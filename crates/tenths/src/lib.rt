@@ -24,6 +24,7 @@ impl Measure for Tenths {
 
     ghost prefers = { λ _. largest_prefers };
 
+    // The seven laws: tenths keep the order and the larger of two; the rest is as of L.
     ghost empty = { λ m v level. refl };
 
     ghost joined = { λ m. tenths_joined };
