@@ -2,7 +2,7 @@
 """Brings the names of the crates' own definitions and lemmas to one spelling, once, right after the toolchain's port script.
 
 Words are in snake case, facts, types and records in camel case: `put-from` becomes `put_from`, `Lies-between` becomes `LiesBetween`.
-Names of the library, names that the toolchain makes for goals and steps, functions of src/ and strings stay as they are.
+Names of the library, names that the toolchain makes for goals and steps, and functions of src/ stay as they are.
 
 usage: tools/respell.py        at the top of the repository; prints each name, old and new
 """
