@@ -28,6 +28,7 @@ pub trait Measure: Copy {
     fn preferred(self, list: Readings<'_>) -> Option<i32>
         ensures { result ≡ preferred_answer (prefers self) list.entry.rows.now };
 
+    // The seven laws: a ghost member below the last method is a law, and each `impl` proves it.
     ghost empty: { (m : Self) → EmptyDepartsByZero (departs m) };
 
     ghost joined: { (m : Self) → JoinedDeparturesCombine (departs m) (combined m) };

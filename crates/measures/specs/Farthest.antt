@@ -1,5 +1,5 @@
 -- The largest distance: how it combines, and that it is the distance of an end of the values.
-use Rattle.std.specs.Prelude.{◌≡◌, ℕ, ◌+◌, ◌-◌, ◌<◌, ◌≤◌, max, List, [], ◌∷◌, ◌++◌, length, get_or, take, ℤ, ◌≤ℤ◌, slice_index_or, refl}
+use Rattle.std.specs.Prelude.{◌≡◌, ℕ, ◌+◌, ◌-◌, ◌<◌, ◌≤◌, max, List, [], ◌∷◌, ◌++◌, length, take, ℤ, ◌≤ℤ◌, slice_index_or, refl}
 use Rattle.std.proofs.Common.{ap, subst, arith}
 use Rattle.std.proofs.lemmas.List.{take_more}
 use Rattle.std.proofs.lemmas.Int.{ints}
@@ -34,7 +34,7 @@ departs_joined (x ∷ xs) ys v = omega (arith, departs_joined xs ys v)
 -- one reading more
 pub departs_more :
     (rs : List Reading) (i : ℕ) (d : Reading) (v : ℤ) → i < length rs
-    → largest_departs (take (i + 1) rs) v ≡ max (largest_departs (take i rs) v) (distance (get_or rs i d).value v)
+    → largest_departs (take (i + 1) rs) v ≡ max (largest_departs (take i rs) v) (distance (slice_index_or rs i d).value v)
 departs_more rs i d v h =
     omega (arith, ap (λ qs. largest_departs qs v) (take_more rs i d h), departs_joined (take i rs) (slice_index_or rs i d ∷ []) v)
 

@@ -18,6 +18,7 @@ pub(crate) trait Cost: Copy {
         requires level { Level level }
         ensures { result ≡ costs self row level };
 
+    // A law, which each `impl` proves.
     ghost small: { (c : Self) (r : Row) (v : ℤ) → OnScale r → Level v → costs c r v ≤ one_most };
 }
 
