@@ -1,5 +1,6 @@
 // Where a measure answers and where it does not, the same for every measure.
 ghost use Rattle.std.specs.Prelude.{◌≡◌};
+ghost use Rattle.reading.specs.Readings.{rows_of};
 ghost use Rattle.isotonic.specs.Answers.{has_combination, has_departure, has_preferred};
 
 use reading::{LIMIT, Readings, is_level};
@@ -12,7 +13,7 @@ pub const COMBINED_MOST: u64 = LIMIT as u64 * READING_MOST;
 
 // Whether there is a departure: the list is within the limit, and the number is a level.
 pub fn has_departure(list: Readings<'_>, level: i32) -> bool
-    ensures { result ≡ has_departure list.entry.rows.now level }
+    ensures { result ≡ has_departure (rows_of list.entry) level }
 {
     list.len() <= LIMIT && is_level(level)
 }
@@ -26,7 +27,7 @@ pub fn has_combination(first: u64, second: u64) -> bool
 
 // Whether there is a preferred level: the list is within the limit and has a reading.
 pub fn has_preferred(list: Readings<'_>) -> bool
-    ensures { result ≡ has_preferred list.entry.rows.now }
+    ensures { result ≡ has_preferred (rows_of list.entry) }
 {
     1 <= list.len() && list.len() <= LIMIT
 }

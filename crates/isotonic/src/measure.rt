@@ -2,6 +2,7 @@
 ghost use Rattle.std.specs.Prelude.{◌≡◌, ℕ, List, ℤ};
 ghost use Rattle.isotonic.specs.Answers.{combination_answer, departure_answer, preferred_answer};
 ghost use Rattle.isotonic.specs.Laws.{CombinesInAnyOrder, EmptyDepartsByZero, JoinedDeparturesCombine, JoinedPrefersBetween, NearerDepartsNoMore, OneDepartsWithin, RaisedPrefersNoLower};
+ghost use Rattle.reading.specs.Readings.{rows_of};
 ghost use Rattle.reading.specs.declared.scale.Reading.{Reading};
 
 use reading::Readings;
@@ -18,7 +19,7 @@ pub trait Measure: Copy {
 
     // What the readings depart by at a level; nothing unless `has_departure`.
     fn departure(self, list: Readings<'_>, level: i32) -> Option<u64>
-        ensures { result ≡ departure_answer (departs self) list.entry.rows.now level };
+        ensures { result ≡ departure_answer (departs self) (rows_of list.entry) level };
 
     // Two departures together; nothing unless `has_combination`.
     fn combination(self, first: u64, second: u64) -> Option<u64>
@@ -26,7 +27,7 @@ pub trait Measure: Copy {
 
     // The level that the readings prefer; nothing unless `has_preferred`.
     fn preferred(self, list: Readings<'_>) -> Option<i32>
-        ensures { result ≡ preferred_answer (prefers self) list.entry.rows.now };
+        ensures { result ≡ preferred_answer (prefers self) (rows_of list.entry) };
 
     // The seven laws: a ghost member below the last method is a law, and each `impl` proves it.
     ghost empty: { (m : Self) → EmptyDepartsByZero (departs m) };

@@ -1,5 +1,6 @@
 // Stretches of a list of readings, put to any measure.
 ghost use Rattle.std.specs.Prelude.{◌≡◌, ℕ, ◌*◌, ◌≤◌, length, Some};
+ghost use Rattle.reading.specs.Readings.{rows_of};
 ghost use Rattle.isotonic.specs.Answers.{departure_answer};
 ghost use Rattle.isotonic.specs.Bounds.{one_most};
 ghost use Rattle.reading.specs.Lists.{stretch};
@@ -16,8 +17,8 @@ pub fn stretch_departure<M: Measure>(
     last: usize,
     level: i32,
 ) -> Option<u64>
-    ensures value { result ≡ departure_answer (M.departs measure) (stretch list.entry.rows.now first last) level }
-    ensures within { (d : ℕ) → result ≡ Some d → d ≤ one_most * length (stretch list.entry.rows.now first last) }
+    ensures value { result ≡ departure_answer (M.departs measure) (stretch (rows_of list.entry) first last) level }
+    ensures within { (d : ℕ) → result ≡ Some d → d ≤ one_most * length (stretch (rows_of list.entry) first last) }
 {
     let own = measure;
     own.departure(list.stretch(first, last), level)

@@ -1,5 +1,6 @@
 // The measure A: weighted absolute distances add up, and the weighted median is preferred.
 ghost use Rattle.std.specs.Prelude.{◌≡◌, ◌+◌, ◌<◌, ◌≤◌, length};
+ghost use Rattle.reading.specs.Readings.{rows_of};
 ghost use Rattle.isotonic.specs.Answers.{combination_answer, departure_answer, preferred_answer};
 ghost use Rattle.measures.specs.Absolute.{absolute_cost, absolute_departs, absolute_prefers, counted};
 ghost use Rattle.reading.specs.Scale.{limit};
@@ -46,9 +47,9 @@ impl Cost for UpTo {
 
 // The smallest level with at least half of the weight up to it, by bisecting the levels.
 fn median(list: Readings<'_>) -> i32
-    requires some { 0 < length list.rows.now }
-    requires few { length list.rows.now ≤ limit }
-    ensures { result ≡ absolute_prefers list.entry.rows.now }
+    requires some { 0 < length (rows_of list) }
+    requires few { length (rows_of list) ≤ limit }
+    ensures { result ≡ absolute_prefers (rows_of list.entry) }
 {
     let whole = added(UpTo, list, HIGHEST);
     let mut low = 0;
@@ -87,7 +88,7 @@ impl Measure for Absolute {
     ghost raised = { λ m. sum_raised absolute_cost absolute_prefers absolute_bends absolute_first absolute_shifts };
 
     fn departure(self, list: Readings<'_>, level: i32) -> Option<u64>
-        ensures { result ≡ departure_answer absolute_departs list.entry.rows.now level }
+        ensures { result ≡ departure_answer absolute_departs (rows_of list.entry) level }
     {
         added_departure(self, list, level)
     }
@@ -99,7 +100,7 @@ impl Measure for Absolute {
     }
 
     fn preferred(self, list: Readings<'_>) -> Option<i32>
-        ensures { result ≡ preferred_answer absolute_prefers list.entry.rows.now }
+        ensures { result ≡ preferred_answer absolute_prefers (rows_of list.entry) }
     {
         if !has_preferred(list) {
             return None;

@@ -1,5 +1,6 @@
 // What one reading costs at a level, and the sum of that over a list.
 ghost use Rattle.std.specs.Prelude.{◌≡◌, ℕ, ◌+◌, ◌≤◌, length, ℤ};
+ghost use Rattle.reading.specs.Readings.{rows_of};
 ghost use Rattle.isotonic.specs.Answers.{combination_answer, departure_answer};
 ghost use Rattle.isotonic.specs.Bounds.{one_most};
 ghost use Rattle.measures.specs.Values.{total};
@@ -24,9 +25,9 @@ pub(crate) trait Cost: Copy {
 
 // The sum of the costs of all readings.
 pub(crate) fn added<C: Cost>(cost: C, list: Readings<'_>, level: i32) -> u64
-    requires few { length list.rows.now ≤ limit }
+    requires few { length (rows_of list) ≤ limit }
     requires level { Level level }
-    ensures { result ≡ total (C.costs cost) list.entry.rows.now level }
+    ensures { result ≡ total (C.costs cost) (rows_of list.entry) level }
 {
     let rows = list.rows();
     let mut sum = 0;
@@ -38,7 +39,7 @@ pub(crate) fn added<C: Cost>(cost: C, list: Readings<'_>, level: i32) -> u64
 
 // That sum as a departure.
 pub(crate) fn added_departure<C: Cost>(cost: C, list: Readings<'_>, level: i32) -> Option<u64>
-    ensures { result ≡ departure_answer (total (C.costs cost)) list.entry.rows.now level }
+    ensures { result ≡ departure_answer (total (C.costs cost)) (rows_of list.entry) level }
 {
     if !has_departure(list, level) {
         return None;

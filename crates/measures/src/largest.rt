@@ -1,5 +1,6 @@
 // The measure L: the largest distance counts, weights are not read, and the middle of the values is preferred.
 ghost use Rattle.std.specs.Prelude.{◌≡◌, ◌<◌, max, length};
+ghost use Rattle.reading.specs.Readings.{rows_of};
 ghost use Rattle.isotonic.specs.Answers.{combination_answer, departure_answer, preferred_answer};
 ghost use Rattle.measures.specs.Largest.{largest_departs, largest_prefers};
 ghost use Rattle.measures.specs.Values.{largest, smallest, values};
@@ -16,7 +17,7 @@ pub struct Largest;
 
 // The largest |value - level|; 0 for no readings.
 fn farthest(list: Readings<'_>, level: i32) -> u64
-    ensures { result ≡ largest_departs list.entry.rows.now level }
+    ensures { result ≡ largest_departs (rows_of list.entry) level }
 {
     let rows = list.rows();
     let mut most: u64 = 0;
@@ -34,9 +35,9 @@ struct Span {
 }
 
 fn span_of(list: Readings<'_>) -> Span
-    requires { 0 < length list.rows.now }
-    ensures low { result.low ≡ smallest (values list.entry.rows.now) }
-    ensures high { result.high ≡ largest (values list.entry.rows.now) }
+    requires { 0 < length (rows_of list) }
+    ensures low { result.low ≡ smallest (values (rows_of list.entry)) }
+    ensures high { result.high ≡ largest (values (rows_of list.entry)) }
 {
     let rows = list.rows();
     let mut low = HIGHEST;
@@ -50,8 +51,8 @@ fn span_of(list: Readings<'_>) -> Span
 
 // The largest whole number not above half the sum of the two ends, also below zero.
 fn middle(list: Readings<'_>) -> i32
-    requires { 0 < length list.rows.now }
-    ensures { result ≡ largest_prefers list.entry.rows.now }
+    requires { 0 < length (rows_of list) }
+    ensures { result ≡ largest_prefers (rows_of list.entry) }
 {
     let Span { low, high } = span_of(list);
     (low + high) >> 1
@@ -80,7 +81,7 @@ impl Measure for Largest {
     ghost raised = { λ m. largest_raised };
 
     fn departure(self, list: Readings<'_>, level: i32) -> Option<u64>
-        ensures { result ≡ departure_answer largest_departs list.entry.rows.now level }
+        ensures { result ≡ departure_answer largest_departs (rows_of list.entry) level }
     {
         if !has_departure(list, level) {
             return None;
@@ -98,7 +99,7 @@ impl Measure for Largest {
     }
 
     fn preferred(self, list: Readings<'_>) -> Option<i32>
-        ensures { result ≡ preferred_answer largest_prefers list.entry.rows.now }
+        ensures { result ≡ preferred_answer largest_prefers (rows_of list.entry) }
     {
         if !has_preferred(list) {
             return None;

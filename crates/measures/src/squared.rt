@@ -1,5 +1,6 @@
 // The measure S: weighted squared distances add up, and the whole number nearest the weighted mean is preferred.
 ghost use Rattle.std.specs.Prelude.{◌≡◌, ◌+◌, ◌*◌, ◌<◌, ◌≤◌, length};
+ghost use Rattle.reading.specs.Readings.{rows_of};
 ghost use Rattle.isotonic.specs.Answers.{combination_answer, departure_answer, preferred_answer};
 ghost use Rattle.measures.specs.Squared.{place_of, squared_cost, squared_departs, squared_prefers, weighted_places};
 ghost use Rattle.measures.specs.Values.{whole_weight};
@@ -53,9 +54,9 @@ fn weighted_place(row: Reading) -> u64
 }
 
 fn weigh(list: Readings<'_>) -> Weighed
-    requires { length list.rows.now ≤ limit }
-    ensures whole { result.whole ≡ whole_weight list.entry.rows.now }
-    ensures sum { result.sum ≡ weighted_places list.entry.rows.now }
+    requires { length (rows_of list) ≤ limit }
+    ensures whole { result.whole ≡ whole_weight (rows_of list.entry) }
+    ensures sum { result.sum ≡ weighted_places (rows_of list.entry) }
 {
     let rows = list.rows();
     let mut whole: u64 = 0;
@@ -69,9 +70,9 @@ fn weigh(list: Readings<'_>) -> Weighed
 
 // The whole number nearest the weighted mean; a half goes to the lower one.
 fn mean(list: Readings<'_>) -> i32
-    requires some { 0 < length list.rows.now }
-    requires few { length list.rows.now ≤ limit }
-    ensures { result ≡ squared_prefers list.entry.rows.now }
+    requires some { 0 < length (rows_of list) }
+    requires few { length (rows_of list) ≤ limit }
+    ensures { result ≡ squared_prefers (rows_of list.entry) }
 {
     let Weighed { whole, sum } = weigh(list);
     level_at((2 * sum + whole - 1) / (2 * whole))
@@ -100,7 +101,7 @@ impl Measure for Squared {
     ghost raised = { λ m. sum_raised squared_cost squared_prefers squared_bends squared_first squared_shifts };
 
     fn departure(self, list: Readings<'_>, level: i32) -> Option<u64>
-        ensures { result ≡ departure_answer squared_departs list.entry.rows.now level }
+        ensures { result ≡ departure_answer squared_departs (rows_of list.entry) level }
     {
         added_departure(self, list, level)
     }
@@ -112,7 +113,7 @@ impl Measure for Squared {
     }
 
     fn preferred(self, list: Readings<'_>) -> Option<i32>
-        ensures { result ≡ preferred_answer squared_prefers list.entry.rows.now }
+        ensures { result ≡ preferred_answer squared_prefers (rows_of list.entry) }
     {
         if !has_preferred(list) {
             return None;

@@ -1,4 +1,3 @@
 pub mod Places
-pub mod Fronts
 pub mod Puts
 pub mod Verdicts

@@ -1,24 +1,9 @@
--- The entry at a place, and the stretch between two places, as clamped indices give them.
-use Rattle.std.proofs.Common.{◌≡◌, ℕ, zero, suc, ◌-◌, ◌<◌, ◌≤◌, min, List, length, get_or, take, drop, Some, None, sym, refl, ap, ◌∙◌, inl, inr, arith}
+-- The stretch between two places, as clamped indices give it.
+use Rattle.std.proofs.Common.{◌≡◌, ℕ, ◌-◌, ◌≤◌, min, List, length, take, drop, sym, ap, ◌∙◌, inl, inr, arith}
 use Rattle.std.proofs.lemmas.List.{take_all, drop_all, length-take}
-use Rattle.std.proofs.lemmas.Option.{slice_get-get_or, slice_get_past}
 use Rattle.std.proofs.lemmas.Slice.{between_is}
 use Rattle.std.proofs.lemmas.Bool.{cases_lt}
-use Rattle.reading.specs.Lists.{at_place, stretch}
-
-pub at_place_within : {X : Type 0} (xs : List X) (p : ℕ) (d : X) → 1 ≤ p → p ≤ length xs → Some (get_or xs (p - 1) d) ≡ at_place xs p
-at_place_within xs zero d low high = absurd (omega arith)
-at_place_within xs (suc i) d low high =
-    let e : suc i - 1 ≡ i = omega arith in
-    let h : i < length xs = omega arith in
-    rw e (sym (slice_get-get_or xs i d h))
-
-pub at_place_zero : {X : Type 0} (xs : List X) (p : ℕ) → p ≡ 0 → None ≡ at_place xs p
-at_place_zero xs p e = rw e
-
-pub at_place_outside : {X : Type 0} (xs : List X) (p : ℕ) → length xs < p → None ≡ at_place xs p
-at_place_outside xs zero h = refl
-at_place_outside xs (suc i) h = sym (slice_get_past xs i (omega arith))
+use Rattle.reading.specs.Lists.{stretch}
 
 take_clamped : {X : Type 0} (xs : List X) (n m : ℕ) → m ≡ min n (length xs) → take m xs ≡ take n xs
 take_clamped xs n m e =

@@ -6,7 +6,7 @@ use Rattle.std.proofs.lemmas.List.{set_split, length-append, length-take, length
 use Rattle.std.proofs.lemmas.Bool.{cond-true, cond-false, cond_both, leb-true, le-leb, lt-leb}
 use Rattle.reading.specs.declared.refusals.Refusal.{Refusal}
 use Rattle.reading.specs.declared.refusals.Refusal.TheVariants.{TooLittleRoom}
-use Rattle.reading.specs.Lists.{delivered, filled, fitted, grown, put_from}
+use Rattle.reading.specs.Lists.{delivered, filled, fitted, put_from}
 
 pub put_fits : {X : Type 0} (n : ℕ) (xs out : List X) → n + length xs ≤ length out → put_from n xs out ≡ take n out ++ (xs ++ drop (n + length xs) out)
 put_fits n xs out h = cond-true (leb (n + length xs) (length out)) _ _ (le-leb _ _ h)
@@ -21,9 +21,6 @@ put_one out i x h = set_split out i x h ∙ ap (λ k. take i out ++ x ∷ drop k
 -- all entries copied one after another
 pub put_all : {X : Type 0} (out : List X) (n : ℕ) (xs : List X) (m : ℕ) → n + length xs ≤ length out → m ≡ length xs → paste out n xs m ≡ put_from n xs out
 put_all out n xs m h e = paste_all out n xs m e ∙ ap (λ k. take n out ++ (xs ++ drop (n + k) out)) e ∙ sym (put_fits n xs out h)
-
-pub grown_fits : (count n room : ℕ) → count + n ≤ room → Ok (count + n) ≡ grown count n room
-grown_fits count n room h = sym (cond-true (leb (count + n) room) _ _ (le-leb _ _ h))
 
 pub fitted_fits : (n room : ℕ) → n ≤ room → Ok n ≡ fitted n room
 fitted_fits n room h = sym (cond-true (leb n room) _ _ (le-leb _ _ h))

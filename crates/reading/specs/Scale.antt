@@ -1,5 +1,6 @@
 -- The scale of readings, and how many may be held. Assumes nothing.
-use Rattle.std.specs.Prelude.{◌≡◌, ℕ, ◌<◌, Bool, true, cond, ◌&&◌, List, [], ◌∷◌, length, ℤ, pos, negsuc, Ok, Err, Result, int_le, nat_le, slice_index_or}
+use Rattle.std.specs.Prelude.{◌≡◌, ℕ, Bool, true, cond, ◌&&◌, All, List, ℤ, pos, negsuc, Ok, Err, Result, int_le, nat_le}
+use Rattle.std.specs.List.{take_while}
 use Rattle.reading.specs.declared.refusals.Refusal.{Refusal}
 use Rattle.reading.specs.declared.refusals.Refusal.TheVariants.{ValueOffScale, WeightOffScale}
 use Rattle.reading.specs.declared.scale.Reading.{Reading}
@@ -34,9 +35,8 @@ admitted r p = cond (is_level r.value) (cond (is_weight r.weight) (Ok r) (Err (W
 
 -- every reading of a list is on the scale
 abbrev pub Scaled : List Reading → Type 0
-Scaled rs = (k : ℕ) (d : Reading) → k < length rs → on_scale (slice_index_or rs k d) ≡ true
+Scaled rs = All OnScale rs
 
 -- the readings before the first that is off the scale
 abbrev pub scaled_front : List Reading → List Reading
-scaled_front [] = []
-scaled_front (r ∷ rs) = cond (on_scale r) (r ∷ scaled_front rs) []
+scaled_front rs = take_while on_scale rs

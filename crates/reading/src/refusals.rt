@@ -5,7 +5,7 @@ ghost use Rattle.reading.specs.Refusals.{number_of, place_of, refusal_text, site
 use std::fmt;
 
 // What a call found wrong. Each case carries the place that it points at, unless that is always 0.
-#[derive(Clone, Copy, PartialEq, Debug)]
+#[derive(Clone, Copy, PartialEq, Eq, Hash, Debug)]
 pub enum Refusal {
     ValueOffScale { place: usize },
     WeightOffScale { place: usize },
@@ -21,7 +21,7 @@ pub enum Refusal {
 }
 
 // Where a refusal is checked.
-#[derive(Clone, Copy, PartialEq, Debug)]
+#[derive(Clone, Copy, PartialEq, Eq, Hash, Debug)]
 pub enum Site {
     AtReading,
     AtProfile,

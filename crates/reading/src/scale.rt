@@ -1,6 +1,6 @@
 // One reading, and the scale of values and weights.
 ghost use Rattle.std.specs.Prelude.{◌≡◌};
-ghost use Rattle.reading.specs.Scale.{admitted, is_level, on_scale};
+ghost use Rattle.reading.specs.Scale.{admitted, is_level, is_weight, on_scale};
 
 use crate::refusals::Refusal;
 
@@ -16,7 +16,7 @@ pub const HIGHEST: i32 = 30_000;
 const HEAVIEST: u32 = 1_000;
 
 // One measured value in hundredths of a decibel, and how many sweeps stand behind it.
-#[derive(Clone, Copy, PartialEq, Debug)]
+#[derive(Clone, Copy, PartialEq, Eq, Hash, Debug)]
 pub struct Reading {
     pub value: i32,
     pub weight: u32,
@@ -26,7 +26,13 @@ pub struct Reading {
 pub fn is_level(number: i32) -> bool
     ensures { result ≡ is_level number }
 {
-    LOWEST <= number && number <= HIGHEST
+    (LOWEST..=HIGHEST).contains(&number)
+}
+
+fn is_weight(number: u32) -> bool
+    ensures { result ≡ is_weight number }
+{
+    (1..=HEAVIEST).contains(&number)
 }
 
 impl Reading {
@@ -34,10 +40,10 @@ impl Reading {
     pub fn admit(self, place: usize) -> Result<Reading, Refusal>
         ensures { result ≡ admitted self place }
     {
-        if self.value < LOWEST || self.value > HIGHEST {
+        if !is_level(self.value) {
             return Err(Refusal::ValueOffScale { place });
         }
-        if self.weight < 1 || self.weight > HEAVIEST {
+        if !is_weight(self.weight) {
             return Err(Refusal::WeightOffScale { place });
         }
         Ok(self)
@@ -46,6 +52,6 @@ impl Reading {
     pub fn is_on_scale(self) -> bool
         ensures { result ≡ on_scale self }
     {
-        is_level(self.value) && 1 <= self.weight && self.weight <= HEAVIEST
+        is_level(self.value) && is_weight(self.weight)
     }
 }

@@ -1,5 +1,6 @@
 // Writing the stored form: nothing is written unless all of it fits.
 ghost use Rattle.std.specs.Prelude.{◌≡◌, ◌+◌, ◌*◌, ◌≤◌, length, take, IfOk, Ok};
+ghost use Rattle.reading.specs.Readings.{rows_of};
 ghost use Rattle.reading.specs.Lists.{delivered, filled, put_from};
 ghost use Rattle.stored.specs.Forms.{column_bytes, decoded, storable};
 
@@ -9,8 +10,8 @@ use reading::{LIMIT, Readings, Refusal};
 
 // Writes one column of the readings, from the word at an index on.
 fn put_column(list: Readings<'_>, column: Column, into: &mut [u8], at: usize)
-    requires { 2 * (at + length list.rows.now) ≤ length into.old }
-    ensures { into.new ≡ put_from (2 * at) (column_bytes column list.entry.rows.now) into.old }
+    requires { 2 * (at + length (rows_of list)) ≤ length into.old }
+    ensures { into.new ≡ put_from (2 * at) (column_bytes column (rows_of list.entry)) into.old }
 {
     let rows = list.rows();
     for (i, row) in rows.iter().enumerate() {
@@ -20,9 +21,9 @@ fn put_column(list: Readings<'_>, column: Column, into: &mut [u8], at: usize)
 
 // Writes readings as stored bytes to the front of a slice, and answers how many bytes.
 pub fn write(list: Readings<'_>, into: &mut [u8]) -> Result<usize, Refusal>
-    ensures value { result ≡ delivered (storable list.entry.rows.now) into.old }
-    ensures after { into.new ≡ filled (storable list.entry.rows.now) into.old }
-    ensures reads_back { IfOk result (λ n. decoded (take n into.new) ≡ Ok list.entry.rows.now) }
+    ensures value { result ≡ delivered (storable (rows_of list.entry)) into.old }
+    ensures after { into.new ≡ filled (storable (rows_of list.entry)) into.old }
+    ensures reads_back { IfOk result (λ n. decoded (take n into.new) ≡ Ok (rows_of list.entry)) }
 {
     let count = list.len();
     if count > LIMIT {

@@ -2,6 +2,7 @@
 #![tactic(auto)]
 
 ghost use Rattle.std.specs.Prelude.{◌≡◌, max, refl};
+ghost use Rattle.reading.specs.Readings.{rows_of};
 ghost use Rattle.isotonic.specs.Answers.{combination_answer, departure_answer, preferred_answer};
 ghost use Rattle.measures.specs.Largest.{largest_prefers};
 ghost use Rattle.tenths.specs.Tenth.{tenths_departs};
@@ -40,7 +41,7 @@ impl Measure for Tenths {
     ghost raised = { λ m. largest_raised };
 
     fn departure(self, list: Readings<'_>, level: i32) -> Option<u64>
-        ensures { result ≡ departure_answer tenths_departs list.entry.rows.now level }
+        ensures { result ≡ departure_answer tenths_departs (rows_of list.entry) level }
     {
         let hundredths = Largest.departure(list, level)?;
         Some(hundredths / 10)
@@ -53,7 +54,7 @@ impl Measure for Tenths {
     }
 
     fn preferred(self, list: Readings<'_>) -> Option<i32>
-        ensures { result ≡ preferred_answer largest_prefers list.entry.rows.now }
+        ensures { result ≡ preferred_answer largest_prefers (rows_of list.entry) }
     {
         Largest.preferred(list)
     }

@@ -1,7 +1,6 @@
-use Rattle.std.proofs.Common.{refl, arith}
-use Rattle.reading.proofs.Puts.{put_one, grown_fits}
+use Rattle.std.proofs.Common.{arith}
+use Rattle.reading.proofs.Puts.{put_one}
 use Rattle.reading.proofs.slots.Bounded.push.Goals as goal
 
-pub returns : goal.returns
-returns g c =
-    record { value = grown_fits _ _ _ (omega arith); slots = put_one c.args.self.now.slots.now c.args.self.now.count _ (omega arith); count = refl; lender = refl }
+pub returns-clause-slots : goal.returns-clause-slots
+returns-clause-slots g c = put_one c.args.self.now.slots.now c.args.self.now.count _ (omega arith)
