@@ -1,4 +1,3 @@
-pub mod Scales
 pub mod Given
+pub mod Sums
 pub mod Within
-pub mod Raised

@@ -1,12 +1,9 @@
 -- What a measure answers, and where it answers nothing. Assumes nothing.
-use Rattle.std.specs.Prelude.{ℕ, Bool, cond, ◌&&◌, List, length, ℤ, Some, None, Option, nat_le}
+use Rattle.std.specs.Prelude.{ℕ, Bool, ◌&&◌, List, length, ℤ, Option, nat_le}
+use Rattle.std.specs.Bool.{then_some}
 use Rattle.reading.specs.declared.scale.Reading.{Reading}
 use Rattle.reading.specs.Scale.{is_level, limit}
 use Rattle.isotonic.specs.Bounds.{all_most}
-
--- an answer that is there only where a test passes
-abbrev pub only_if : {X : Type 0} → Bool → X → Option X
-only_if test x = cond test (Some x) None
 
 -- there is a departure of a list within the limit, at a number that is a level
 abbrev pub has_departure : List Reading → ℤ → Bool
@@ -22,10 +19,10 @@ has_preferred rs = nat_le 1 (length rs) && nat_le (length rs) limit
 
 -- what is answered for a departure, and so for the other two
 abbrev pub departure_answer : (List Reading → ℤ → ℕ) → List Reading → ℤ → Option ℕ
-departure_answer dep rs v = only_if (has_departure rs v) (dep rs v)
+departure_answer dep rs v = then_some (has_departure rs v) (dep rs v)
 
 abbrev pub combination_answer : (ℕ → ℕ → ℕ) → ℕ → ℕ → Option ℕ
-combination_answer comb x y = only_if (has_combination x y) (comb x y)
+combination_answer comb x y = then_some (has_combination x y) (comb x y)
 
 abbrev pub preferred_answer : (List Reading → ℤ) → List Reading → Option ℤ
-preferred_answer pref rs = only_if (has_preferred rs) (pref rs)
+preferred_answer pref rs = then_some (has_preferred rs) (pref rs)

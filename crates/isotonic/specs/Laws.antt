@@ -1,6 +1,6 @@
 -- The seven laws that every measure keeps: of what a list departs by at a level, how departures combine, and the level a list prefers. Assumes nothing.
 use Rattle.std.specs.Prelude.{◌≡◌, ℕ, ◌+◌, ◌<◌, ◌≤◌, ◌⊎◌, List, [], ◌∷◌, ◌++◌, length, ℤ, ◌≤ℤ◌, ◌<ℤ◌}
-use Rattle.std.specs.List.{AllByRecursion}
+use Rattle.std.specs.List.{AllByRecursion, AllZip}
 use Rattle.reading.specs.declared.scale.Reading.{Reading}
 use Rattle.reading.specs.Scale.{Level, OnScale}
 use Rattle.isotonic.specs.Bounds.{one_most}
@@ -43,10 +43,7 @@ JoinedPrefersBetween pref =
 
 -- as many readings, with values nowhere lower and the same weights
 abbrev pub NowhereLower : List Reading → List Reading → Type 0
-NowhereLower [] [] = Unit {0}
-NowhereLower [] (y ∷ ys) = ⊥
-NowhereLower (x ∷ xs) [] = ⊥
-NowhereLower (x ∷ xs) (y ∷ ys) = (x.value ≤ℤ y.value) × (x.weight ≡ y.weight) × NowhereLower xs ys
+NowhereLower xs ys = AllZip (λ (x y : Reading). (x.value ≤ℤ y.value) × (x.weight ≡ y.weight)) xs ys
 
 -- values nowhere lower, with the same weights, are preferred no lower
 abbrev pub RaisedPrefersNoLower : (List Reading → ℤ) → Type 0

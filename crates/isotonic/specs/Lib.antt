@@ -1,3 +1,9 @@
 pub mod Laws
 pub mod Bounds
 pub mod Answers
+pub mod Scales
+pub mod Smallest
+pub mod Convex
+pub mod Places
+pub mod Costs
+pub mod Summed

@@ -3,7 +3,7 @@ use Rattle.std.proofs.Common.{◌≡◌, ℤ, ◌+ℤ◌, arith, w32, SFits, to_
 use lib.Signed.{mag_shr, shr_z}
 use Rattle.std.proofs.lemmas.Int.{ints, to_z-of_z}
 use Rattle.reading.specs.Scale.{Level}
-use Rattle.isotonic.proofs.Scales.{level_bounds}
+use Rattle.isotonic.specs.Scales.{level_bounds}
 
 pub level_fits : (v : ℤ) → Level v → SFits w32 v
 level_fits v level = let b = level_bounds v level in omega (arith, ints)

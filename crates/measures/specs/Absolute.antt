@@ -1,7 +1,8 @@
 -- The measure A: weighted absolute distances are added, and the weighted median is preferred. Assumes nothing.
 use Rattle.std.specs.Prelude.{ℕ, ◌*◌, Bool, cond, List, ℤ, filter, int_le, nat_le}
 use Rattle.reading.specs.declared.scale.Reading.{Reading}
-use Rattle.measures.specs.Values.{distance, smallest, total, values, whole_weight}
+use Rattle.isotonic.specs.Costs.{total}
+use Rattle.measures.specs.Values.{distance, smallest, values, whole_weight}
 
 -- what one reading adds: its weight times |value - level|
 abbrev pub absolute_cost : Reading → ℤ → ℕ

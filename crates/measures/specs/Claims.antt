@@ -1,17 +1,11 @@
 -- The theorems on the three measures and on the words that define them. Assumes nothing.
 use Rattle.std.specs.Prelude.{◌≡◌, ℕ, ◌<◌, ◌≤◌, List, length, ℤ, pos, ◌*ℤ◌, ◌≤ℤ◌}
 use Rattle.std.specs.List.{ContainsAt, AllByRecursion}
-use Rattle.reading.specs.declared.scale.Reading.{Reading}
-use Rattle.reading.specs.Scale.{Level, OnScale}
+use Rattle.isotonic.specs.Smallest.{PrefersSmallestOfLeast}
 use Rattle.measures.specs.Absolute.{absolute_departs, absolute_prefers}
 use Rattle.measures.specs.Largest.{largest_departs, largest_prefers}
 use Rattle.measures.specs.Squared.{squared_departs, squared_prefers}
 use Rattle.measures.specs.Values.{distance, floored, largest, nearest, smallest}
-
--- what is preferred is the smallest of the levels at which a list departs by the least
-abbrev pub PrefersSmallestOfLeast : (List Reading → ℤ → ℕ) → (List Reading → ℤ) → Type 0
-PrefersSmallestOfLeast dep pref =
-    (xs : List Reading) → AllByRecursion OnScale xs → 0 < length xs → (v : ℤ) → Level v → (dep xs (pref xs) ≤ dep xs v) × (dep xs v ≡ dep xs (pref xs) → pref xs ≤ℤ v)
 
 -- so it is under A, S and L
 abbrev pub AllPreferSmallestOfLeast : Type 0

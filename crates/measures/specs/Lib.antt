@@ -1,10 +1,9 @@
 pub mod Values
+pub mod Samples
 pub mod Absolute
 pub mod Squared
 pub mod Largest
 pub mod Claims
-pub mod Summed
-pub mod Convex
 pub mod Places
 pub mod Medians
 pub mod Extremes

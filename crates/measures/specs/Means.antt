@@ -9,14 +9,15 @@ use Rattle.std.specs.List.{AllByRecursion}
 use Rattle.reading.specs.declared.scale.Reading.{Reading}
 use Rattle.reading.specs.Scale.{Level, OnScale}
 use Rattle.isotonic.specs.Bounds.{one_most}
-use Rattle.isotonic.proofs.Scales.{level_bounds, value_level, weight_bounds}
+use Rattle.isotonic.specs.Scales.{level_bounds, value_level, weight_bounds}
 use Rattle.measures.specs.Squared.{place_of, squared_cost, squared_prefers, weighted_places, weighted_sum}
 use Rattle.measures.specs.Values.{distance, floored, left_over, nearest, whole_weight}
-use Rattle.measures.specs.Convex.{First, one_first}
-use Rattle.measures.specs.Places.{at, distance_within, top}
+use Rattle.isotonic.specs.Convex.{First, one_first}
+use Rattle.isotonic.specs.Places.{at, top}
+use Rattle.measures.specs.Places.{distance_within}
 use Rattle.measures.specs.Quotients.{floored_shifted, left_over_shifted}
 use Rattle.measures.specs.Weights.{whole_positive}
-use Rattle.measures.specs.Summed.{CostBends, CostShifts, PrefersFirst, placed_cost}
+use Rattle.isotonic.specs.Costs.{CostBends, CostShifts, PrefersFirst, placed_cost}
 
 value_placed : (r : Reading) → OnScale r → r.value ≡ at (place_of r)
 value_placed r scaled = let b = level_bounds r.value (value_level r scaled) in omega (arith, ints)

@@ -9,15 +9,16 @@ use Rattle.std.specs.List.{AllByRecursion}
 use Rattle.reading.specs.declared.scale.Reading.{Reading}
 use Rattle.reading.specs.Scale.{Level, OnScale}
 use Rattle.isotonic.specs.Bounds.{one_most}
-use Rattle.isotonic.proofs.Scales.{level_bounds, value_level, weight_bounds}
+use Rattle.isotonic.specs.Scales.{level_bounds, value_level, weight_bounds}
 use Rattle.measures.specs.Absolute.{absolute_cost, absolute_prefers, counted, reaches_half, weight_up_to}
 use Rattle.measures.specs.Values.{distance, smallest, values, whole_weight}
-use Rattle.measures.specs.Convex.{First, one_first}
+use Rattle.isotonic.specs.Convex.{First, one_first}
 use Rattle.measures.specs.Extremes.{smallest_bounds, smallest_holds}
-use Rattle.measures.specs.Places.{at, distance_within, placed, top}
+use Rattle.isotonic.specs.Places.{at, placed, top}
+use Rattle.measures.specs.Places.{distance_within}
 use Rattle.measures.specs.Spans.{values_levels}
 use Rattle.measures.specs.Weights.{whole_positive}
-use Rattle.measures.specs.Summed.{CostBends, CostShifts, PrefersFirst, placed_cost}
+use Rattle.isotonic.specs.Costs.{CostBends, CostShifts, PrefersFirst, placed_cost}
 
 counted_below : (r : Reading) (v : ℤ) → r.value ≤ℤ v → counted r v ≡ r.weight
 counted_below r v h = cond-true (int_le r.value v) r.weight 0 (grind (arith, ints))

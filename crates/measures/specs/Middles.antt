@@ -7,11 +7,11 @@ use Rattle.std.specs.List.{AllByRecursion}
 use Rattle.reading.specs.declared.scale.Reading.{Reading}
 use Rattle.reading.specs.Scale.{Level, OnScale}
 use Rattle.isotonic.specs.Laws.{JoinedPrefersBetween, LiesBetween, NearerDepartsNoMore, RaisedPrefersNoLower}
-use Rattle.measures.specs.Claims.{PrefersSmallestOfLeast}
+use Rattle.isotonic.specs.Smallest.{PrefersSmallestOfLeast}
 use Rattle.measures.specs.Largest.{largest_departs, largest_prefers}
 use Rattle.measures.specs.Values.{floored, largest, smallest, values}
 use Rattle.measures.specs.Extremes.{largest_from, left_bounds, right_bounds, smallest_from}
-use Rattle.measures.specs.Places.{at, at_le, at_level, between_levels, placed}
+use Rattle.isotonic.specs.Places.{at, at_le, at_level, between_levels, placed}
 use Rattle.measures.specs.Spans.{Ends, ends_of, raised_largest, raised_smallest, some_values}
 use Rattle.measures.specs.Farthest.{ends_depart}
 use Rattle.measures.specs.Quotients.{floored_shifted}

@@ -3,16 +3,16 @@ use Rattle.std.specs.Prelude.{◌≡◌, ℕ, ◌<◌, ◌≤◌, List, [], ◌�
 use Rattle.std.proofs.Common.{sym, subst, arith}
 use Rattle.std.proofs.ByRecursion.{All-map, All-weaker}
 use Rattle.std.proofs.lemmas.List.{length-map}
+use Rattle.std.proofs.lemmas.List.Elements.{length_all_zip}
 use Rattle.std.proofs.lemmas.Int.{ints}
 use Rattle.std.specs.List.{AllByRecursion}
 use Rattle.reading.specs.declared.scale.Reading.{Reading}
 use Rattle.reading.specs.Scale.{Level, OnScale}
 use Rattle.isotonic.specs.Laws.{NowhereLower}
-use Rattle.isotonic.proofs.Raised.{as_many}
-use Rattle.isotonic.proofs.Scales.{level_bounds, value_level}
+use Rattle.isotonic.specs.Scales.{level_bounds, value_level}
 use Rattle.measures.specs.Values.{largest, smallest, values}
 use Rattle.measures.specs.Extremes.{largest_bounds, largest_holds, smallest_bounds, smallest_holds}
-use Rattle.measures.specs.Places.{at, placed, top}
+use Rattle.isotonic.specs.Places.{at, placed, top}
 
 pub some_values : (rs : List Reading) → 0 < length rs → 0 < length (values rs)
 some_values rs some = omega (arith, length-map rs (λ (r : Reading). r.value))
@@ -61,20 +61,20 @@ module _ (z : ℤ) where
   raised_above [] [] lower all = tt
   raised_above [] (y ∷ ys) lower all = absurd lower
   raised_above (x ∷ xs) [] lower all = absurd lower
-  raised_above (x ∷ xs) (y ∷ ys) lower all = (omega (arith, ints, all.0, lower.0), raised_above xs ys lower.2 all.1)
+  raised_above (x ∷ xs) (y ∷ ys) lower all = (omega (arith, ints, all.0, lower.0.0), raised_above xs ys lower.1 all.1)
 
   raised_below : (xs ys : List Reading) → NowhereLower xs ys → AllByRecursion (λ y. y ≤ℤ z) (values ys) → AllByRecursion (λ x. x ≤ℤ z) (values xs)
   raised_below [] [] lower all = tt
   raised_below [] (y ∷ ys) lower all = absurd lower
   raised_below (x ∷ xs) [] lower all = absurd lower
-  raised_below (x ∷ xs) (y ∷ ys) lower all = (omega (arith, ints, all.0, lower.0), raised_below xs ys lower.2 all.1)
+  raised_below (x ∷ xs) (y ∷ ys) lower all = (omega (arith, ints, all.0, lower.0.0), raised_below xs ys lower.1 all.1)
 
 module _ (xs ys : List Reading) (some : 0 < length xs) (lower : NowhereLower xs ys) where
   -- both ends of raised values are no lower
   pub raised_smallest : smallest (values xs) ≤ℤ smallest (values ys)
   raised_smallest =
       let low = smallest (values xs) in
-      smallest_holds (λ y. low ≤ℤ y) (values ys) (some_values ys (omega (arith, as_many xs ys lower))) (raised_above low xs ys lower (smallest_bounds (values xs)))
+      smallest_holds (λ y. low ≤ℤ y) (values ys) (some_values ys (omega (arith, length_all_zip _ xs ys lower))) (raised_above low xs ys lower (smallest_bounds (values xs)))
 
   pub raised_largest : largest (values xs) ≤ℤ largest (values ys)
   raised_largest =

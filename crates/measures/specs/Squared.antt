@@ -1,7 +1,8 @@
 -- The measure S: weighted squared distances are added, and the whole number nearest the weighted mean is preferred. Assumes nothing.
 use Rattle.std.specs.Prelude.{ℕ, ◌*◌, List, [], ◌∷◌, ℤ, pos, ◌+ℤ◌, ◌*ℤ◌, sum_by, unsigned_abs}
 use Rattle.reading.specs.declared.scale.Reading.{Reading}
-use Rattle.measures.specs.Values.{distance, nearest, total, whole_weight}
+use Rattle.isotonic.specs.Costs.{total}
+use Rattle.measures.specs.Values.{distance, nearest, whole_weight}
 
 -- what one reading adds: its weight times the square of value - level
 abbrev pub squared_cost : Reading → ℤ → ℕ

@@ -8,10 +8,6 @@ use Rattle.reading.specs.declared.scale.Reading.{Reading}
 abbrev pub distance : ℤ → ℤ → ℕ
 distance x v = unsigned_abs (x -ℤ v)
 
--- the sum of what each reading costs at a level
-abbrev pub total : (Reading → ℤ → ℕ) → List Reading → ℤ → ℕ
-total cost rs v = sum_by (λ r. cost r v) rs
-
 abbrev pub values : List Reading → List ℤ
 values rs = map (λ r. r.value) rs
 

@@ -5,7 +5,7 @@ use Rattle.std.proofs.lemmas.List.Sums.{sum_by-cons}
 use Rattle.std.specs.List.{AllByRecursion}
 use Rattle.reading.specs.declared.scale.Reading.{Reading}
 use Rattle.reading.specs.Scale.{OnScale}
-use Rattle.isotonic.proofs.Scales.{weight_bounds}
+use Rattle.isotonic.specs.Scales.{weight_bounds}
 use Rattle.measures.specs.Values.{whole_weight}
 
 -- it is not 0 where there is a reading

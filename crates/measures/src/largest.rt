@@ -1,30 +1,29 @@
 // The measure L: the largest distance counts, weights are not read, and the middle of the values is preferred.
-ghost use Rattle.std.specs.Prelude.{◌≡◌, ◌<◌, max, length};
+ghost use Rattle.std.specs.Prelude.{◌≡◌, max};
 ghost use Rattle.reading.specs.Readings.{rows_of};
 ghost use Rattle.isotonic.specs.Answers.{combination_answer, departure_answer, preferred_answer};
 ghost use Rattle.measures.specs.Largest.{largest_departs, largest_prefers};
+ghost use Rattle.measures.specs.Samples.{sampled};
 ghost use Rattle.measures.specs.Values.{largest, smallest, values};
 ghost use Rattle.measures.specs.Farthest.{largest_empty, largest_joined, larger_combines, largest_bounded};
 ghost use Rattle.measures.specs.Middles.{largest_nearer, largest_between, largest_raised};
 
 use crate::levels::distance_from;
-use isotonic::{Measure, has_combination, has_departure, has_preferred};
+use crate::samples::Sample;
+use isotonic::{Measure, has_combination, has_departure};
 use reading::{HIGHEST, LOWEST, Readings};
 
 // The measure L.
-#[derive(Clone, Copy)]
+#[derive(Clone, Copy, PartialEq, Eq, Debug)]
 pub struct Largest;
 
 // The largest |value - level|; 0 for no readings.
 fn farthest(list: Readings<'_>, level: i32) -> u64
     ensures { result ≡ largest_departs (rows_of list.entry) level }
 {
-    let rows = list.rows();
-    let mut most: u64 = 0;
-    for row in rows {
-        most = most.max(distance_from(*row, level));
-    }
-    most
+    list.rows()
+        .iter()
+        .fold(0, |most: u64, row| most.max(distance_from(*row, level)))
 }
 
 // The smallest and the largest value.
@@ -34,12 +33,11 @@ struct Span {
     high: i32,
 }
 
-fn span_of(list: Readings<'_>) -> Span
-    requires { 0 < length (rows_of list) }
-    ensures low { result.low ≡ smallest (values (rows_of list.entry)) }
-    ensures high { result.high ≡ largest (values (rows_of list.entry)) }
+fn span_of(sample: Sample<'_>) -> Span
+    ensures low { result.low ≡ smallest (values (sampled sample.entry)) }
+    ensures high { result.high ≡ largest (values (sampled sample.entry)) }
 {
-    let rows = list.rows();
+    let rows = sample.rows();
     let mut low = HIGHEST;
     let mut high = LOWEST;
     for row in rows {
@@ -50,11 +48,10 @@ fn span_of(list: Readings<'_>) -> Span
 }
 
 // The largest whole number not above half the sum of the two ends, also below zero.
-fn middle(list: Readings<'_>) -> i32
-    requires { 0 < length (rows_of list) }
-    ensures { result ≡ largest_prefers (rows_of list.entry) }
+fn middle(sample: Sample<'_>) -> i32
+    ensures { result ≡ largest_prefers (sampled sample.entry) }
 {
-    let Span { low, high } = span_of(list);
+    let Span { low, high } = span_of(sample);
     (low + high) >> 1
 }
 
@@ -83,6 +80,7 @@ impl Measure for Largest {
     fn departure(self, list: Readings<'_>, level: i32) -> Option<u64>
         ensures { result ≡ departure_answer largest_departs (rows_of list.entry) level }
     {
+        // Not `then`: what a closure here would give is not known to the proof.
         if !has_departure(list, level) {
             return None;
         }
@@ -92,18 +90,12 @@ impl Measure for Largest {
     fn combination(self, first: u64, second: u64) -> Option<u64>
         ensures { result ≡ combination_answer (λ x y. max x y) first second }
     {
-        if !has_combination(first, second) {
-            return None;
-        }
-        Some(first.max(second))
+        has_combination(first, second).then(|| first.max(second))
     }
 
     fn preferred(self, list: Readings<'_>) -> Option<i32>
         ensures { result ≡ preferred_answer largest_prefers (rows_of list.entry) }
     {
-        if !has_preferred(list) {
-            return None;
-        }
-        Some(middle(list))
+        Sample::of(list).map(middle)
     }
 }

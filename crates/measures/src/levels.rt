@@ -1,5 +1,5 @@
 // Levels counted from the lowest on, and distances from a level.
-ghost use Rattle.std.specs.Prelude.{◌≡◌, ◌≤◌, pos, ◌-ℤ◌};
+ghost use Rattle.std.specs.Prelude.{◌≡◌, ◌<◌, ◌≤◌, ◌^◌, pos, ◌-ℤ◌};
 ghost use Rattle.measures.specs.Values.{distance};
 
 use reading::{HIGHEST, LOWEST, Reading};
@@ -17,7 +17,8 @@ pub(crate) fn level_at(place: u64) -> i32
 
 // |value - level|.
 pub(crate) fn distance_from(row: Reading, level: i32) -> u64
-    ensures { result ≡ distance row.value level }
+    ensures value { result ≡ distance row.value level }
+    ensures short { result < 2 ^ 32 }
 {
     u64::from(row.value.abs_diff(level))
 }

@@ -2,16 +2,19 @@
 #![tactic(auto)]
 
 mod absolute;
-mod costs;
 mod largest;
 mod levels;
+mod samples;
 mod squared;
 mod theorems;
 
 pub use absolute::Absolute;
 pub use largest::Largest;
 pub use squared::Squared;
-pub use theorems::{definitions_mean_what_they_say, preferred_is_smallest_of_least};
+pub use theorems::{
+    absolute_keeps_its_formulas, definitions_mean_what_they_say, largest_keeps_its_formulas,
+    preferred_is_smallest_of_least, squared_keeps_its_formulas,
+};
 
 #[cfg(test)]
 mod tests;

@@ -15,7 +15,7 @@ use measures::Largest;
 use reading::Readings;
 
 // The largest distance, in whole tenths.
-#[derive(Clone, Copy)]
+#[derive(Clone, Copy, PartialEq, Eq, Debug)]
 pub struct Tenths;
 
 impl Measure for Tenths {
@@ -43,8 +43,9 @@ impl Measure for Tenths {
     fn departure(self, list: Readings<'_>, level: i32) -> Option<u64>
         ensures { result ≡ departure_answer tenths_departs (rows_of list.entry) level }
     {
-        let hundredths = Largest.departure(list, level)?;
-        Some(hundredths / 10)
+        Largest
+            .departure(list, level)
+            .map(|hundredths| hundredths / 10)
     }
 
     fn combination(self, first: u64, second: u64) -> Option<u64>

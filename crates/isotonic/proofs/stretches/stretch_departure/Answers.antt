@@ -3,7 +3,7 @@ use Rattle.std.proofs.lemmas.Int.{to_z-of_z}
 use Rattle.reading.specs.Lists.{stretch}
 use Rattle.reading.specs.Scale.{Scaled}
 use Rattle.isotonic.specs.Answers.{departure_answer}
-use Rattle.isotonic.proofs.Scales.{all_scaled}
+use Rattle.isotonic.specs.Scales.{all_scaled}
 use Rattle.isotonic.proofs.Within.{answer_within}
 use Rattle.isotonic.proofs.stretches.stretch_departure.Goals as goal
 

@@ -3,7 +3,7 @@ use Rattle.measures.specs.Squared.{squared_cost, squared_prefers}
 use Rattle.measures.specs.Means.{squared_bends, squared_first}
 use Rattle.measures.specs.Medians.{absolute_bends, absolute_first}
 use Rattle.measures.specs.Middles.{largest_smallest}
-use Rattle.measures.specs.Summed.{sum_smallest}
+use Rattle.isotonic.specs.Summed.{sum_smallest}
 use Rattle.measures.proofs.theorems.preferred_is_smallest_of_least.Goals as goal
 
 pub returns : goal.returns

@@ -1,20 +1,19 @@
 -- Departures that add up a cost of each reading: their laws, wherever that cost bends upwards along the levels.
-use Rattle.std.specs.Prelude.{◌≡◌, ℕ, suc, ◌+◌, ◌<◌, ◌≤◌, List, [], ◌∷◌, ◌++◌, length, ℤ, ◌≤ℤ◌, refl}
+use Rattle.std.specs.Prelude.{◌≡◌, ℕ, suc, ◌+◌, ◌<◌, ◌≤◌, List, [], ◌∷◌, ◌++◌, ℤ, ◌≤ℤ◌, refl}
 use Rattle.std.proofs.Common.{inl, inr, sym, subst, add_assoc, add_comm, zero-add, arith}
 use Rattle.std.proofs.ByRecursion.{All-append}
 use Rattle.std.proofs.lemmas.List.{length-append}
+use Rattle.std.proofs.lemmas.List.Elements.{length_all_zip}
 use Rattle.std.proofs.lemmas.Int.{ints}
 use Rattle.std.proofs.lemmas.List.Sums.{sum_by-append, sum_by-cons}
 use Rattle.std.specs.List.{AllByRecursion}
 use Rattle.reading.specs.declared.scale.Reading.{Reading}
 use Rattle.reading.specs.Scale.{Level, OnScale}
-use Rattle.isotonic.specs.Bounds.{one_most}
 use Rattle.isotonic.specs.Laws.{CombinesInAnyOrder, EmptyDepartsByZero, JoinedDeparturesCombine, JoinedPrefersBetween, LiesBetween, NearerDepartsNoMore, NowhereLower, OneDepartsWithin, RaisedPrefersNoLower}
-use Rattle.isotonic.proofs.Raised.{as_many}
-use Rattle.measures.specs.Claims.{PrefersSmallestOfLeast}
-use Rattle.measures.specs.Values.{total}
-use Rattle.measures.specs.Convex.{Bends, First, first_least, nearer_above, nearer_below, no_earlier, not_after_both, not_before_both}
-use Rattle.measures.specs.Places.{at, at_le, at_level, between_levels, placed, top}
+use Rattle.isotonic.specs.Smallest.{PrefersSmallestOfLeast}
+use Rattle.isotonic.specs.Costs.{CostBends, CostIsWithin, CostShifts, PrefersFirst, placed_cost, total}
+use Rattle.isotonic.specs.Convex.{Bends, First, first_least, nearer_above, nearer_below, no_earlier, not_after_both, not_before_both}
+use Rattle.isotonic.specs.Places.{at, at_le, at_level, between_levels, placed, top}
 
 -- adding is a way to combine
 pub adding_combines : CombinesInAnyOrder (λ x y. x + y)
@@ -27,25 +26,6 @@ adding_combines =
       at_most_sum = λ x y. omega arith;
     }
 
--- the cost of a list, by places
-abbrev pub placed_cost : (Reading → ℤ → ℕ) → List Reading → ℕ → ℕ
-placed_cost cost rs n = total cost rs (at n)
-
--- a cost bends upwards along the levels
-abbrev pub CostBends : (Reading → ℤ → ℕ) → Type 0
-CostBends cost = (r : Reading) → OnScale r → Bends (λ n. cost r (at n)) top
-
--- and a higher value has nowhere a larger change
-abbrev pub CostShifts : (Reading → ℤ → ℕ) → Type 0
-CostShifts cost =
-    (r s : Reading) → OnScale r → OnScale s → r.value ≤ℤ s.value → r.weight ≡ s.weight → (n : ℕ) → n < top
-    → cost s (at (suc n)) + cost r (at n) ≤ cost s (at n) + cost r (at (suc n))
-
--- what is preferred is the first level at which the total is least
-abbrev pub PrefersFirst : (Reading → ℤ → ℕ) → (List Reading → ℤ) → Type 0
-PrefersFirst cost pref =
-    (rs : List Reading) → AllByRecursion OnScale rs → 0 < length rs → (p : ℕ) × (pref rs ≡ at p) × First (placed_cost cost rs) top p
-
 module _ (cost : Reading → ℤ → ℕ) where
   pub sum_empty : EmptyDepartsByZero (total cost)
   sum_empty v level = refl
@@ -53,7 +33,7 @@ module _ (cost : Reading → ℤ → ℕ) where
   pub sum_joined : JoinedDeparturesCombine (total cost) (λ x y. x + y)
   sum_joined xs ys v all_x all_y level = sum_by-append (λ r. cost r v) xs ys
 
-  pub sum_bounded : ((r : Reading) (v : ℤ) → OnScale r → Level v → cost r v ≤ one_most) → OneDepartsWithin (total cost)
+  pub sum_bounded : CostIsWithin cost → OneDepartsWithin (total cost)
   sum_bounded small r v scaled level = omega (arith, small r v scaled level)
 
   pub total_bends : CostBends cost → (rs : List Reading) → AllByRecursion OnScale rs → Bends (placed_cost cost rs) top
@@ -71,8 +51,8 @@ module _ (cost : Reading → ℤ → ℕ) where
   total_shifts shifts [] (y ∷ ys) all_x all_y lower n h = absurd lower
   total_shifts shifts (x ∷ xs) [] all_x all_y lower n h = absurd lower
   total_shifts shifts (x ∷ xs) (y ∷ ys) all_x all_y lower n h =
-      let rest = total_shifts shifts xs ys all_x.1 all_y.1 lower.2 n h in
-      let one = shifts x y all_x.0 all_y.0 lower.0 lower.1 n h in
+      let rest = total_shifts shifts xs ys all_x.1 all_y.1 lower.1 n h in
+      let one = shifts x y all_x.0 all_y.0 lower.0.0 lower.0.1 n h in
       omega
       (arith, sum_by-cons (λ s. cost s (at n)) x xs, sum_by-cons (λ s. cost s (at (suc n))) x xs, sum_by-cons (λ s. cost s (at n)) y ys, sum_by-cons (λ s. cost s (at (suc n))) y ys)
 
@@ -120,7 +100,7 @@ module _ (cost : Reading → ℤ → ℕ) (pref : List Reading → ℤ) (bends :
   pub sum_raised : CostShifts cost → RaisedPrefersNoLower pref
   sum_raised shifts xs ys all_x all_y some lower =
       let x = first xs all_x some in
-      let y = first ys all_y (omega (arith, as_many xs ys lower)) in
+      let y = first ys all_y (omega (arith, length_all_zip _ xs ys lower)) in
       let le = no_earlier (placed_cost cost xs) (placed_cost cost ys) top x.0 y.0 x.2 y.2 (total_shifts cost shifts xs ys all_x all_y lower) in
       rw (x.1, y.1) (at_le x.0 y.0 le)
 
