@@ -7,7 +7,7 @@ mod worked;
 use std::io;
 
 fn main(rt: HostRuntime) -> io::Result<()> {
-    let _ = worked::figures_of_the_definitions();
+    worked::figures_of_the_definitions();
     worked::each_list(&rt)?;
     limits::each_measure(&rt)
 }
