@@ -12,12 +12,12 @@ const INPUT_LIMIT: u64 = 65_536;
 // A listing longer than this is refused.
 const OUTPUT_ROOM: usize = 65_536;
 
-fn run<R: Read + Drop, W: Write>(heap: Global, input: R, output: &mut W) -> io::Result<()> {
-    let mut bytes = Vec::new(heap);
+fn run(alloc: Global, input: impl Read + Drop, output: &mut impl Write) -> io::Result<()> {
+    let mut bytes = Vec::new(alloc);
     input.take(INPUT_LIMIT).read_to_end(&mut bytes)?;
-    let mut text = vec![in heap; 0u8; OUTPUT_ROOM]?;
+    let mut text = vec![in alloc; 0; OUTPUT_ROOM]?;
     match listing(&bytes, &mut text) {
-        Ok(count) => output.write_all(&text[0..count]),
+        Ok(count) => output.write_all(&text[..count]),
         Err(refusal) => writeln!(output, "{refusal}"),
     }
 }
@@ -32,47 +32,38 @@ mod tests {
     use std::test::Fail;
 
     // What fitlist prints for a letter, sizes of 0 and zeros behind them, so many bytes in all.
-    fn printed(heap: Global, length: usize) -> io::Result<Vec<u8>> {
-        let mut input = vec![in heap; 0u8; length]?;
-        if length > 0 {
-            input[0] = b'A';
+    fn printed(alloc: Global, length: usize) -> io::Result<Vec<u8>> {
+        let mut input = vec![in alloc; 0; length]?;
+        if let Some(first) = input.first_mut() {
+            *first = b'A';
         }
-        let mut output = Vec::new(heap);
-        run(heap, input.as_slice(), &mut output)?;
+        let mut output = Vec::new(alloc);
+        run(alloc, input.as_slice(), &mut output)?;
         Ok(output)
     }
 
     #[test]
     fn takes_the_first_65_536_bytes_as_the_whole_input(rt: HostRuntime) -> Result<(), Fail> {
-        let heap = rt.alloc();
-        assert_eq!(rt;
-            printed(heap, 65_535)?.as_slice(),
-            b"refused 9 65534\n".as_slice()
-        );
-        assert_eq!(rt;
-            printed(heap, 65_536)?.as_slice(),
-            b"refused 9 65535\n".as_slice()
-        );
-        assert_eq!(rt;
-            printed(heap, 65_537)?.as_slice(),
-            b"refused 9 65535\n".as_slice()
-        );
-        assert_eq!(rt;
-            printed(heap, 200_000)?.as_slice(),
-            b"refused 9 65535\n".as_slice()
-        );
+        for (length, text) in [
+            (65_535, "refused 9 65534\n"),
+            (65_536, "refused 9 65535\n"),
+            (65_537, "refused 9 65535\n"),
+            (200_000, "refused 9 65535\n"),
+        ] {
+            assert_eq!(rt; printed(rt.alloc(), length)?.as_slice(), text.as_bytes());
+        }
         Ok(())
     }
 
     #[test]
     fn prints_a_listing_or_a_refusal(rt: HostRuntime) -> Result<(), Fail> {
-        let heap = rt.alloc();
-        assert_eq!(rt; printed(heap, 0)?.as_slice(), b"refused 8 0\n".as_slice());
-        assert_eq!(rt; printed(heap, 1)?.as_slice(), b"refused 9 0\n".as_slice());
-        assert_eq!(rt;
-            printed(heap, 5)?.as_slice(),
-            b"measure A readings 0\n".as_slice()
-        );
+        for (length, text) in [
+            (0, "refused 8 0\n"),
+            (1, "refused 9 0\n"),
+            (5, "measure A readings 0\n"),
+        ] {
+            assert_eq!(rt; printed(rt.alloc(), length)?.as_slice(), text.as_bytes());
+        }
         Ok(())
     }
 }
