@@ -1,54 +1,70 @@
 // Listings of profiles whose count has one digit, two, three and four, and of one reading off the scale.
+ghost use Rattle.std.specs.Prelude.{◌<◌, ◌^◌, length};
+
 use crate::show;
 use std::alloc::{AllocError, Global};
 use std::io;
 
-// A under so many readings of 0 and weight 1, but for the value and the weight at one place.
-fn profile(
-    heap: Global,
-    count: u16,
-    place: u16,
+// A value and a weight in their stored widths.
+#[derive(Clone, Copy)]
+struct Row {
     value: i16,
     weight: u16,
-) -> Result<Vec<u8>, AllocError> {
-    let mut bytes = Vec::new(heap);
-    bytes.extend_from_slice(b"A")?;
-    bytes.extend_from_slice(&count.to_le_bytes())?;
-    bytes.extend_from_slice(&count.to_le_bytes())?;
-    for i in 0..count {
-        let cell = if i.saturating_add(1) == place {
-            value
-        } else {
-            0
-        };
-        bytes.extend_from_slice(&cell.to_le_bytes())?;
-    }
-    for i in 0..count {
-        let cell = if i.saturating_add(1) == place {
-            weight
-        } else {
-            1
-        };
-        bytes.extend_from_slice(&cell.to_le_bytes())?;
+}
+
+const USUAL: Row = Row {
+    value: 0,
+    weight: 1,
+};
+
+// A and these rows behind it: their count twice, their values, then their weights.
+fn profile(alloc: Global, rows: &[Row]) -> Result<Vec<u8>, AllocError>
+    requires { length rows.now < 2 ^ 16 }
+{
+    let count = (rows.len() as u16).to_le_bytes();
+    let values = rows.iter().map(|row| row.value.to_le_bytes());
+    let weights = rows.iter().map(|row| row.weight.to_le_bytes());
+    let mut bytes = vec![in alloc; b'A']?;
+    for word in [count, count].into_iter().chain(values).chain(weights) {
+        bytes.extend_from_slice(&word)?;
     }
     Ok(bytes)
 }
 
-pub(crate) fn each_count(rt: &HostRuntime) -> io::Result<()> {
+fn each_length(rt: &impl Print, alloc: Global) -> io::Result<()> {
     for count in [0u16, 1, 9, 10, 99, 100, 999, 1_000, 1_023, 1_024, 1_025] {
-        show(rt, &profile(rt.alloc(), count, 0, 0, 0)?, &mut [0u8; 64])?;
-    }
-    for place in [1u16, 2, 1_023, 1_024] {
-        show(
-            rt,
-            &profile(rt.alloc(), 1_024, place, -30_001, 0)?,
-            &mut [0u8; 64],
-        )?;
-        show(
-            rt,
-            &profile(rt.alloc(), 1_024, place, 30_000, 1_001)?,
-            &mut [0u8; 64],
-        )?;
+        let rows = vec![in alloc; USUAL; usize::from(count)]?;
+        show(rt, &profile(alloc, &rows)?)?;
     }
     Ok(())
+}
+
+// A full profile whose row at one index is not the usual one.
+fn with_odd(alloc: Global, index: usize, odd: Row) -> Result<Vec<u8>, AllocError> {
+    let mut rows = [USUAL; 1_024];
+    if let Some(row) = rows.get_mut(index) {
+        *row = odd;
+    }
+    profile(alloc, &rows)
+}
+
+fn each_odd(rt: &impl Print, alloc: Global) -> io::Result<()> {
+    let low_and_light = Row {
+        value: -30_001,
+        weight: 0,
+    };
+    let heavy = Row {
+        value: 30_000,
+        weight: 1_001,
+    };
+    for index in [0, 1, 1_022, 1_023] {
+        show(rt, &with_odd(alloc, index, low_and_light)?)?;
+        show(rt, &with_odd(alloc, index, heavy)?)?;
+    }
+    Ok(())
+}
+
+pub(crate) fn each_count(rt: &impl Print, alloc: Global) -> io::Result<()> {
+    each_length(rt, alloc)?;
+    each_odd(rt, alloc)
 }

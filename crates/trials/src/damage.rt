@@ -1,57 +1,83 @@
 // A sample with one byte changed at a time: how often each refusal comes, at which places, and that it changes nothing.
+ghost use Rattle.std.specs.Prelude.{◌<◌};
+
+use crate::ROOM;
+use crate::rooms::{FILLER, untouched};
 use listing::listing;
-use std::io;
+use std::alloc::{AllocError, Global};
+use std::collections::BTreeMap;
+use std::{fmt, io};
 
 // What came of so many inputs: granted, or refused under each number.
-#[derive(Clone, Copy)]
+#[derive(Drop)]
 struct Tally {
     granted: u32,
-    refused: [u32; 12],
+    refused: BTreeMap<u8, u32>,
     places: usize,
     spoiled: u32,
 }
 
 impl Tally {
-    fn note(&mut self, input: &[u8]) {
-        let mut output = [0xeeu8; 64];
-        match listing(input, &mut output) {
-            Ok(_) => self.granted = self.granted.saturating_add(1),
-            Err(refusal) => {
-                let number = (refusal.number() as usize).min(11);
-                self.refused[number] = self.refused[number].saturating_add(1);
-                self.places = self.places.saturating_add(refusal.place());
-                if output != [0xeeu8; 64] {
-                    self.spoiled = self.spoiled.saturating_add(1);
-                }
-            }
+    fn new(alloc: Global) -> Self {
+        Tally {
+            granted: 0,
+            refused: BTreeMap::new(alloc),
+            places: 0,
+            spoiled: 0,
         }
+    }
+
+    fn note(&mut self, input: &[u8]) -> Result<(), AllocError> {
+        let mut output = [FILLER; ROOM];
+        let Err(refusal) = listing(input, &mut output) else {
+            self.granted = self.granted.saturating_add(1);
+            return Ok(());
+        };
+        let count = self.refused.entry(refusal.number())?.or_insert(0);
+        *count = count.saturating_add(1);
+        self.places = self.places.saturating_add(refusal.place());
+        if !untouched(&output) {
+            self.spoiled = self.spoiled.saturating_add(1);
+        }
+        Ok(())
+    }
+
+    // The sample with every byte at one index.
+    fn note_bytes_at(&mut self, at: usize, sample: &[u8; 21]) -> Result<(), AllocError>
+        requires { at < 21 }
+    {
+        for byte in 0..=u8::MAX {
+            let mut input = *sample;
+            input[at] = byte;
+            self.note(&input)?;
+        }
+        Ok(())
     }
 }
 
-pub(crate) fn one_byte(rt: &HostRuntime, sample: &[u8; 21]) -> io::Result<()> {
-    let mut tally = Tally {
-        granted: 0,
-        refused: [0; 12],
-        places: 0,
-        spoiled: 0,
-    };
-    for at in 0..21usize {
-        for byte in 0..=255u8 {
-            let mut input = *sample;
-            input[at] = byte;
-            tally.note(&input);
-        }
+impl fmt::Display for Tally {
+    fn fmt<W: fmt::Write>(&self, f: &mut fmt::Formatter<W>) -> fmt::Result {
+        let Tally {
+            granted,
+            places,
+            spoiled,
+            ..
+        } = self;
+        write!(
+            f,
+            "{granted} granted, places add up to {places}, {spoiled} outputs spoiled"
+        )
     }
-    let granted = tally.granted;
-    let places = tally.places;
-    let spoiled = tally.spoiled;
-    println!(rt;
-        "one byte changed: {granted} granted, places add up to {places}, {spoiled} outputs spoiled"
-    )?;
-    for (number, count) in tally.refused.iter().enumerate() {
-        if *count > 0 {
-            println!(rt; "one byte changed: refused {number} came {count} times")?;
-        }
+}
+
+pub(crate) fn one_byte(rt: &impl Print, alloc: Global, sample: &[u8; 21]) -> io::Result<()> {
+    let mut tally = Tally::new(alloc);
+    for at in 0..sample.len() {
+        tally.note_bytes_at(at, sample)?;
+    }
+    println!(rt; "one byte changed: {tally}")?;
+    for (number, count) in &tally.refused {
+        println!(rt; "one byte changed: refused {number} came {count} times")?;
     }
     Ok(())
 }

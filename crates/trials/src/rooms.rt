@@ -1,38 +1,33 @@
 // The listing into every room, from none to more than enough: it is the same, and what is beyond it stays.
+ghost use Rattle.std.specs.Prelude.{◌≤◌};
+
+use crate::ROOM;
 use listing::listing;
 use reading::Refusal;
 use std::io;
 
-const FILLER: u8 = 0xee;
+pub(crate) const FILLER: u8 = 0xee;
 
-fn untouched(bytes: &[u8]) -> bool {
-    for byte in bytes {
-        if *byte != FILLER {
-            return false;
-        }
-    }
-    true
+pub(crate) fn untouched(bytes: &[u8]) -> bool {
+    bytes.iter().all(|&byte| byte == FILLER)
 }
 
 // Whether the listing into so much room is the whole one or none, and left everything else as it was.
-fn keeps(input: &[u8], whole: &[u8], output: &mut [u8], room: usize) -> bool {
-    let room = room.min(output.len());
-    match listing(input, &mut output[0..room]) {
-        Ok(count) => count <= room && output[0..count] == whole[0..] && untouched(&output[count..]),
-        Err(Refusal::TooLittleRoom { needed }) => needed > room && untouched(output),
+fn keeps(input: &[u8], whole: &[u8], room: usize) -> bool
+    requires { room ≤ ROOM }
+{
+    let mut output = [FILLER; ROOM];
+    match listing(input, &mut output[..room]) {
+        Ok(count) => &output[..count] == whole && untouched(&output[count..]),
+        Err(Refusal::TooLittleRoom { needed }) => needed > room && untouched(&output),
         Err(_) => false,
     }
 }
 
-pub(crate) fn each_room(rt: &HostRuntime, input: &[u8]) -> io::Result<()> {
-    let mut text = [FILLER; 64];
-    let length = listing(input, &mut text).unwrap_or(0).min(64);
-    let mut kept = 0u32;
-    for room in 0..65usize {
-        let mut output = [FILLER; 64];
-        if keeps(input, &text[0..length], &mut output, room) {
-            kept = kept.saturating_add(1);
-        }
-    }
-    println!(rt; "rooms 0 to 64: {kept} left what they should")
+pub(crate) fn each_room(rt: &impl Print, input: &[u8]) -> io::Result<()> {
+    let mut text = [FILLER; ROOM];
+    let length = listing(input, &mut text).unwrap_or(0);
+    let whole = &text[..length];
+    let kept = (0..=ROOM).filter(|&room| keeps(input, whole, room)).count();
+    println!(rt; "rooms 0 to {ROOM}: {kept} left what they should")
 }

@@ -1,43 +1,63 @@
 // Random readings, written and read back, and what was read written again.
+ghost use Rattle.std.specs.Prelude.{◌≤◌};
+
 use crate::random::Random;
+use crate::rooms::FILLER;
 use reading::{LIMIT, Reading, Readings};
-use std::io;
+use std::alloc::{AllocError, Global};
+use std::{array, io};
 use stored::{read, write};
 
-const BYTES: usize = 4_100;
+const BYTES: usize = 4 + 4 * LIMIT;
 
-// Whether so many random readings come back as they were, from bytes that come back too.
-fn returns(random: &mut Random, count: usize) -> bool {
-    let mut rows = [Reading {
-        value: 0,
-        weight: 1,
-    }; LIMIT];
-    for row in rows.iter_mut() {
-        *row = random.reading();
-    }
-    let count = count.min(LIMIT);
-    let mut bytes = [0u8; BYTES];
-    let Ok(length) = write(Readings::of(&rows[0..count]), &mut bytes) else {
-        return false;
+// The stored form of these readings, if they have one and nothing is written behind it.
+fn written(alloc: Global, rows: &[Reading]) -> Result<Option<Vec<u8>>, AllocError> {
+    let mut bytes = vec![in alloc; FILLER; BYTES]?;
+    let Ok(length) = write(Readings::of(rows), &mut bytes) else {
+        return Ok(None);
     };
-    let length = length.min(BYTES);
-    let mut back = [Reading {
-        value: 0,
-        weight: 1,
-    }; LIMIT];
-    if read(&bytes[0..length], &mut back) != Ok(count) || back[0..count] != rows[0..count] {
-        return false;
+    if bytes.iter().skip(length).any(|&byte| byte != FILLER) {
+        return Ok(None);
     }
-    let mut again = [0u8; BYTES];
-    write(Readings::of(&back[0..count]), &mut again) == Ok(length) && again == bytes
+    bytes.truncate(length);
+    Ok(Some(bytes))
 }
 
-pub(crate) fn there_and_back(rt: &HostRuntime) -> io::Result<()> {
-    let mut random = Random(1);
+// The readings of this stored form, if it is one.
+fn read_back(alloc: Global, bytes: &[u8]) -> Result<Option<Vec<Reading>>, AllocError> {
+    let filler = Reading {
+        value: 0,
+        weight: 1,
+    };
+    let mut rows = vec![in alloc; filler; LIMIT]?;
+    let Ok(count) = read(bytes, &mut rows) else {
+        return Ok(None);
+    };
+    rows.truncate(count);
+    Ok(Some(rows))
+}
+
+// Whether so many random readings come back as they were, from bytes that come back too.
+fn returns(alloc: Global, random: &mut Random, count: usize) -> Result<bool, AllocError>
+    requires { count ≤ LIMIT }
+{
+    let rows: [Reading; LIMIT] = array::from_fn(|_| random.reading());
+    let rows = &rows[..count];
+    let Some(bytes) = written(alloc, rows)? else {
+        return Ok(false);
+    };
+    let Some(back) = read_back(alloc, &bytes)? else {
+        return Ok(false);
+    };
+    Ok(back.as_slice() == rows && written(alloc, &back)? == Some(bytes))
+}
+
+pub(crate) fn there_and_back(rt: &impl Print, alloc: Global) -> io::Result<()> {
+    let mut random = Random::new(1);
     let mut returned = 0u32;
-    for turn in 0..205usize {
-        if returns(&mut random, turn.saturating_mul(5).saturating_add(4)) {
-            returned = returned.saturating_add(1);
+    for turn in 0..205 {
+        if returns(alloc, &mut random, 5 * turn + 4)? {
+            returned += 1;
         }
     }
     println!(rt; "written and read back: {returned} of 205 lists")
