@@ -5,7 +5,7 @@ use reading::{HIGHEST, LIMIT, LOWEST, Reading, Readings};
 use std::fmt::Display;
 use std::{array, io};
 
-fn told<T: Copy + Display>(rt: &impl Print, name: &str, answer: Option<T>) -> io::Result<()> {
+fn told(rt: &impl Print, name: &str, answer: Option<impl Copy + Display>) -> io::Result<()> {
     match answer {
         Some(number) => println!(rt; "{name} {number}"),
         None => println!(rt; "{name} nothing"),

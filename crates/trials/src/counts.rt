@@ -2,6 +2,7 @@
 ghost use Rattle.std.specs.Prelude.{◌<◌, ◌^◌, length};
 
 use crate::show;
+use reading::LIMIT;
 use std::alloc::{AllocError, Global};
 use std::io;
 
@@ -41,7 +42,7 @@ fn each_length(rt: &impl Print, alloc: Global) -> io::Result<()> {
 
 // A full profile whose row at one index is not the usual one.
 fn with_odd(alloc: Global, index: usize, odd: Row) -> Result<Vec<u8>, AllocError> {
-    let mut rows = [USUAL; 1_024];
+    let mut rows = [USUAL; LIMIT];
     if let Some(row) = rows.get_mut(index) {
         *row = odd;
     }
@@ -57,7 +58,7 @@ fn each_odd(rt: &impl Print, alloc: Global) -> io::Result<()> {
         value: 30_000,
         weight: 1_001,
     };
-    for index in [0, 1, 1_022, 1_023] {
+    for index in [0, 1, LIMIT - 2, LIMIT - 1] {
         show(rt, &with_odd(alloc, index, low_and_light)?)?;
         show(rt, &with_odd(alloc, index, heavy)?)?;
     }

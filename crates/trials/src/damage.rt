@@ -1,8 +1,8 @@
 // A sample with one byte changed at a time: how often each refusal comes, at which places, and that it changes nothing.
-ghost use Rattle.std.specs.Prelude.{◌<◌};
+ghost use Rattle.std.specs.Prelude.{◌<◌, length};
 
-use crate::ROOM;
 use crate::rooms::{FILLER, untouched};
+use crate::{ROOM, Sample};
 use listing::listing;
 use std::alloc::{AllocError, Global};
 use std::collections::BTreeMap;
@@ -42,9 +42,9 @@ impl Tally {
         Ok(())
     }
 
-    // The sample with every byte at one index.
-    fn note_bytes_at(&mut self, at: usize, sample: &[u8; 21]) -> Result<(), AllocError>
-        requires { at < 21 }
+    // The sample with each byte in turn at one index.
+    fn note_bytes_at(&mut self, at: usize, sample: &Sample) -> Result<(), AllocError>
+        requires { at < length sample.now }
     {
         for byte in 0..=u8::MAX {
             let mut input = *sample;
@@ -52,6 +52,14 @@ impl Tally {
             self.note(&input)?;
         }
         Ok(())
+    }
+
+    fn of_one_byte_changed(alloc: Global, sample: &Sample) -> Result<Self, AllocError> {
+        let mut tally = Tally::new(alloc);
+        for at in 0..sample.len() {
+            tally.note_bytes_at(at, sample)?;
+        }
+        Ok(tally)
     }
 }
 
@@ -70,11 +78,8 @@ impl fmt::Display for Tally {
     }
 }
 
-pub(crate) fn one_byte(rt: &impl Print, alloc: Global, sample: &[u8; 21]) -> io::Result<()> {
-    let mut tally = Tally::new(alloc);
-    for at in 0..sample.len() {
-        tally.note_bytes_at(at, sample)?;
-    }
+pub(crate) fn one_byte(rt: &impl Print, alloc: Global, sample: &Sample) -> io::Result<()> {
+    let tally = Tally::of_one_byte_changed(alloc, sample)?;
     println!(rt; "one byte changed: {tally}")?;
     for (number, count) in &tally.refused {
         println!(rt; "one byte changed: refused {number} came {count} times")?;

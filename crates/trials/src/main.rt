@@ -12,8 +12,10 @@ use listing::{Answer, fit_listing, listing};
 use reading::Refusal;
 use std::io;
 
+pub(crate) type Sample = [u8; 21];
+
 // L and the readings 1, 4, 2, 6, each of weight 1.
-const SAMPLE: [u8; 21] = [
+const SAMPLE: Sample = [
     b'L', 4, 0, 4, 0, 1, 0, 4, 0, 2, 0, 6, 0, 1, 0, 1, 0, 1, 0, 1, 0,
 ];
 
@@ -38,7 +40,8 @@ fn truncated(rt: &impl Print) -> io::Result<()> {
     Ok(())
 }
 
-fn under(letter: u8) -> [u8; 21] {
+// The sample with another letter.
+fn under(letter: u8) -> Sample {
     let mut input = SAMPLE;
     input[0] = letter;
     input

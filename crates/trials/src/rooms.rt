@@ -6,6 +6,7 @@ use listing::listing;
 use reading::Refusal;
 use std::io;
 
+// What an output holds before a call.
 pub(crate) const FILLER: u8 = 0xee;
 
 pub(crate) fn untouched(bytes: &[u8]) -> bool {
