@@ -20,6 +20,5 @@ pub fn stretch_departure<M: Measure>(
     ensures value { result ≡ departure_answer (M.departs measure) (stretch (rows_of list.entry) first last) level }
     ensures within { (d : ℕ) → result ≡ Some d → d ≤ one_most * length (stretch (rows_of list.entry) first last) }
 {
-    let own = measure;
-    own.departure(list.stretch(first, last), level)
+    measure.departure(list.stretch(first, last), level)
 }

@@ -10,11 +10,10 @@ fn of(value: i32, weight: u32) -> Reading {
 }
 
 // The level that the rows prefer and what they depart by at it.
-fn told<M: Measure>(measure: M, rows: &[Reading]) -> Option<(i32, u64)> {
-    let own = measure;
+fn told(measure: impl Measure, rows: &[Reading]) -> Option<(i32, u64)> {
     let list = Readings::of(rows);
-    let level = own.preferred(list)?;
-    Some((level, own.departure(list, level)?))
+    let level = measure.preferred(list)?;
+    Some((level, measure.departure(list, level)?))
 }
 
 #[test]
@@ -43,7 +42,7 @@ fn nothing_is_answered_beyond_the_limits(rt: HostRuntime) {
     assert_eq!(rt; Absolute.preferred(Readings::none()), None);
     assert_eq!(rt; Squared.departure(Readings::none(), 5), Some(0));
     let rows = [of(7, 2); 1_025];
-    assert_eq!(rt; told(Largest, &rows[0..LIMIT]), Some((7, 0)));
+    assert_eq!(rt; told(Largest, &rows[..LIMIT]), Some((7, 0)));
     assert_eq!(rt; Largest.departure(Readings::of(&rows), 7), None);
     assert_eq!(rt; Absolute.preferred(Readings::of(&rows)), None);
     assert_eq!(rt;

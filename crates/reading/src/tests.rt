@@ -5,82 +5,32 @@ use crate::scale::Reading;
 use crate::slots::Bounded;
 use std::test::Fail;
 
+fn of(value: i32, weight: u32) -> Reading {
+    Reading { value, weight }
+}
+
 #[test]
 fn the_scale_ends_where_it_says(rt: HostRuntime) {
-    let low = Reading {
-        value: -30_000,
-        weight: 1,
-    };
-    assert_eq!(rt; low.admit(1), Ok(low));
-    let high = Reading {
-        value: 30_000,
-        weight: 1_000,
-    };
-    assert_eq!(rt; high.admit(1), Ok(high));
-    assert_eq!(rt;
-        Reading {
-            value: -30_001,
-            weight: 0,
-        }
-        .admit(4),
-        Err(Refusal::ValueOffScale { place: 4 })
-    );
-    assert_eq!(rt;
-        Reading {
-            value: 30_001,
-            weight: 1,
-        }
-        .admit(4),
-        Err(Refusal::ValueOffScale { place: 4 })
-    );
-    assert_eq!(rt;
-        Reading {
-            value: 0,
-            weight: 0,
-        }
-        .admit(5),
-        Err(Refusal::WeightOffScale { place: 5 })
-    );
-    assert_eq!(rt;
-        Reading {
-            value: 0,
-            weight: 1_001,
-        }
-        .admit(5),
-        Err(Refusal::WeightOffScale { place: 5 })
-    );
+    for end in [of(-30_000, 1), of(30_000, 1_000)] {
+        assert_eq!(rt; end.admit(1), Ok(end));
+    }
+    for off in [of(-30_001, 0), of(30_001, 1)] {
+        assert_eq!(rt; off.admit(4), Err(Refusal::ValueOffScale { place: 4 }));
+    }
+    for off in [of(0, 0), of(0, 1_001)] {
+        assert_eq!(rt; off.admit(5), Err(Refusal::WeightOffScale { place: 5 }));
+    }
 }
 
 #[test]
 fn a_list_of_readings_stops_before_the_first_off_the_scale(rt: HostRuntime) {
-    let row = Reading {
-        value: 3,
-        weight: 2,
-    };
-    let rows = [
-        row,
-        Reading {
-            value: 4,
-            weight: 1,
-        },
-        Reading {
-            value: 5,
-            weight: 0,
-        },
-        row,
-    ];
+    let rows = [of(3, 2), of(4, 1), of(5, 0), of(3, 2)];
     let list = Readings::of(&rows);
     assert_eq!(rt; list.len(), 2);
     assert_eq!(rt; list.at(0), None);
-    assert_eq!(rt; list.at(1), Some(row));
+    assert_eq!(rt; list.at(1), Some(of(3, 2)));
     assert_eq!(rt; list.at(3), None);
-    assert_eq!(rt;
-        list.stretch(2, 9).at(1),
-        Some(Reading {
-            value: 4,
-            weight: 1,
-        })
-    );
+    assert_eq!(rt; list.stretch(2, 9).at(1), Some(of(4, 1)));
     assert_eq!(rt; list.stretch(3, 2).len(), 0);
     assert_eq!(rt; Readings::none().len(), 0);
 }
