@@ -1,3 +1,2 @@
-pub mod Given
 pub mod Sums
 pub mod Within

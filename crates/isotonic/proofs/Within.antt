@@ -1,13 +1,18 @@
 -- How far a list can depart at a level: by the bound of one reading, times its length.
-use Rattle.std.proofs.Common.{◌≡◌, ℕ, ◌*◌, ◌≤◌, leb, List, [], ◌∷◌, length, ℤ, Some, sym, arith}
+use Rattle.std.proofs.Common.{◌≡◌, ℕ, ◌*◌, ◌≤◌, leb, Bool, true, false, List, [], ◌∷◌, length, ℤ, Some, sym, refl, arith}
 use Rattle.std.proofs.lemmas.Bool.{and_parts}
+use Rattle.std.specs.Bool.{then_some}
 use Rattle.std.specs.List.{AllByRecursion}
 use Rattle.reading.specs.declared.scale.Reading.{Reading}
 use Rattle.reading.specs.Scale.{Level, OnScale, is_level, limit}
 use Rattle.isotonic.specs.Answers.{departure_answer, has_departure}
 use Rattle.isotonic.specs.Bounds.{one_most}
 use Rattle.isotonic.specs.Laws.{CombinesInAnyOrder, EmptyDepartsByZero, JoinedDeparturesCombine, OneDepartsWithin}
-use Rattle.isotonic.proofs.Given.{given_some}
+
+-- where there is an answer, the test passed
+given_some : {X : Type 0} (test : Bool) (x d : X) → then_some test x ≡ Some d → (test ≡ true) × (x ≡ d)
+given_some true x d e = (refl, (cc))
+given_some false x d e = absurd (cc)
 
 module _ (dep : List Reading → ℤ → ℕ) (comb : ℕ → ℕ → ℕ) (empty : EmptyDepartsByZero dep) (joined : JoinedDeparturesCombine dep comb)
     (combining : CombinesInAnyOrder comb) (bounded : OneDepartsWithin dep) where

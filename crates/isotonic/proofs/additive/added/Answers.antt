@@ -1,4 +1,4 @@
-use Rattle.std.proofs.Common.{◌≤◌, length, get_or, pos, sym, ap, ◌∙◌, subst, arith, w32, to_z, of_z}
+use Rattle.std.proofs.Common.{◌≡◌, ◌≤◌, length, get_or, take, pos, sym, ap, ◌∙◌, subst, arith, w32, to_z, of_z}
 use Rattle.std.proofs.lemmas.List.{take_all}
 use Rattle.std.proofs.lemmas.Int.{to_z-of_z}
 use Rattle.std.proofs.lemmas.List.Sums.{sum_by_more}
@@ -39,7 +39,10 @@ loop-row-preserved g c =
 
 pub returns : goal.returns
 returns g c =
-    let same = to_z-of_z w32 c.args.level c.ranges.level in
-    c.loop-row.invariant
-    ∙ ap (λ rs. total (g.C.Additive.costs c.args.cost) rs (to_z w32 (of_z w32 c.args.level))) (take_all _ _ (omega arith) ∙ c.rows-row-items.ensures)
-    ∙ ap (total (g.C.Additive.costs c.args.cost) c.args.list.rows.now) same
+    let level = to_z w32 (of_z w32 c.args.level) in
+    let costs = g.C.Additive.costs c.args.cost in
+    let seen = c.rows-row-items.result.now in
+    let rows = c.args.list.rows.now in
+    let whole : total costs (take c.loop-row.row-index seen) level ≡ total costs rows level = ap (λ rs. total costs rs level) (take_all c.loop-row.row-index seen (omega arith) ∙ c.rows-row-items.ensures) in
+    let same : total costs rows level ≡ total costs rows c.args.level = ap (total costs rows) (to_z-of_z w32 c.args.level c.ranges.level) in
+    cc

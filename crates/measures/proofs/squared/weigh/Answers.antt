@@ -1,11 +1,8 @@
-use Rattle.std.proofs.Common.{◌*◌, length, pos, sym, ap, ◌∙◌, subst, mul-le-mul, arith}
-use Rattle.std.proofs.lemmas.List.{take_all}
-use Rattle.std.proofs.lemmas.List.Sums.{sum_by_more}
+use Rattle.std.proofs.Common.{◌*◌, length, pos, sym, ap, subst, mul-le-mul, arith}
 use Rattle.reading.specs.Scale.{Scaled}
 use Rattle.reading.specs.declared.scale.Reading.{Reading}
 use Rattle.isotonic.specs.Scales.{all_scaled}
-use Rattle.measures.specs.Squared.{place_of, weighted_places}
-use Rattle.measures.specs.Values.{whole_weight}
+use Rattle.measures.specs.Squared.{place_of}
 use Rattle.isotonic.proofs.Sums.{next_within}
 use Rattle.measures.specs.Means.{place_within}
 use Rattle.measures.specs.Weights.{weight_small}
@@ -29,15 +26,3 @@ overflow_add-sum c =
     next_within (λ r. r.weight * place_of r) 60_000_000 (λ r scaled. mul-le-mul (weight_small r scaled) (place_within r scaled)) rows all c.loop-row.row-index none
     c.loop-row-test.true in
     omega (arith, next, c.weighted_place-sum.ensures, c.loop-row.invariant.1, c.args.sample.few, ap length c.rows-rows.ensures)
-
-pub loop-row-preserved : goal.loop-row-preserved
-loop-row-preserved c =
-    let rows = c.rows-rows.result.now in
-    let weights = sum_by_more (λ r. r.weight) rows c.loop-row.row-index none c.loop-row-test.true in
-    let places = sum_by_more (λ r. r.weight * place_of r) rows c.loop-row.row-index none c.loop-row-test.true in
-    (omega (arith, weights, c.from-whole.ensures, c.loop-row.invariant.0), omega (arith, places, c.weighted_place-sum.ensures, c.loop-row.invariant.1))
-
-pub returns : goal.returns
-returns c =
-    let same = take_all _ _ c.loop-row-test.false ∙ c.rows-rows.ensures in
-    record { whole = c.loop-row.invariant.0 ∙ ap whole_weight same; sum = c.loop-row.invariant.1 ∙ ap weighted_places same }
