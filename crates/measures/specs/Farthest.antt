@@ -1,6 +1,7 @@
 -- The largest distance: how it combines, and that it is the distance of an end of the values.
-use Rattle.std.specs.Prelude.{◌≡◌, ℕ, ◌-◌, ◌<◌, ◌≤◌, max, List, [], ◌∷◌, ◌++◌, length, fold, ℤ, ◌≤ℤ◌, refl}
-use Rattle.std.proofs.Common.{subst, arith}
+use Rattle.std.specs.Prelude.{◌≡◌, ℕ, ◌+◌, ◌-◌, ◌<◌, ◌≤◌, max, List, [], ◌∷◌, ◌++◌, length, take, ℤ, ◌≤ℤ◌, slice_index_or, refl}
+use Rattle.std.proofs.Common.{ap, subst, arith}
+use Rattle.std.proofs.lemmas.List.{take_more}
 use Rattle.std.proofs.lemmas.Int.{ints}
 use Rattle.std.specs.List.{AllByRecursion}
 use Rattle.reading.specs.declared.scale.Reading.{Reading}
@@ -31,13 +32,12 @@ pub departs_joined : (xs ys : List Reading) (v : ℤ) → largest_departs (xs ++
 departs_joined [] ys v = omega arith
 departs_joined (x ∷ xs) ys v = omega (arith, departs_joined xs ys v)
 
--- the largest so far, reading by reading
-departs_folded : (a : ℕ) (rs : List Reading) (v : ℤ) → fold (λ most (r : Reading). max most (distance r.value v)) a rs ≡ max a (largest_departs rs v)
-departs_folded a [] v = omega arith
-departs_folded a (r ∷ rs) v = omega (arith, departs_folded (max a (distance r.value v)) rs v)
-
-pub departs_from_fold : (rs : List Reading) (v : ℤ) → fold (λ most (r : Reading). max most (distance r.value v)) 0 rs ≡ largest_departs rs v
-departs_from_fold rs v = omega (arith, departs_folded 0 rs v)
+-- one reading more
+pub departs_more :
+    (rs : List Reading) (i : ℕ) (d : Reading) (v : ℤ) → i < length rs
+    → largest_departs (take (i + 1) rs) v ≡ max (largest_departs (take i rs) v) (distance (slice_index_or rs i d).value v)
+departs_more rs i d v h =
+    omega (arith, ap (λ qs. largest_departs qs v) (take_more rs i d h), departs_joined (take i rs) (slice_index_or rs i d ∷ []) v)
 
 pub largest_joined : JoinedDeparturesCombine largest_departs (λ x y. max x y)
 largest_joined xs ys v all_x all_y level = departs_joined xs ys v

@@ -1,7 +1,7 @@
 // The measure A: weighted absolute distances add up, and the weighted median is preferred.
 ghost use Rattle.std.specs.Prelude.{◌≡◌, ◌%◌, ◌^◌};
 ghost use Rattle.isotonic.specs.Answers.{preferred_answer};
-ghost use Rattle.measures.specs.Absolute.{absolute_cost, absolute_prefers, weight_up_to};
+ghost use Rattle.measures.specs.Absolute.{absolute_cost, absolute_prefers, counted, weight_up_to};
 ghost use Rattle.measures.specs.Medians.{absolute_small, absolute_bends, absolute_first, absolute_shifts};
 ghost use Rattle.measures.specs.Samples.{sampled};
 ghost use Rattle.reading.specs.Readings.{rows_of};
@@ -15,21 +15,26 @@ use reading::{HIGHEST, Reading, Readings};
 #[derive(Clone, Copy, PartialEq, Eq, Debug)]
 pub struct Absolute;
 
+// The weight of a reading whose value is up to the level, and else 0.
+fn counted(row: Reading, level: i32) -> u64
+    ensures { result ≡ counted row level }
+{
+    if row.value <= level {
+        u64::from(row.weight)
+    } else {
+        0
+    }
+}
+
 // The weight of all values up to a level.
 fn weight_up_to(sample: Sample<'_>, level: i32) -> u64
     ensures { result ≡ weight_up_to (sampled sample.entry) level }
 {
-    sample
-        .rows()
-        .iter()
-        .map(|row| {
-            if row.value <= level {
-                u64::from(row.weight)
-            } else {
-                0
-            }
-        })
-        .sum()
+    let mut sum: u64 = 0;
+    for row in sample.rows() {
+        sum += counted(*row, level);
+    }
+    sum
 }
 
 // The smallest level with at least half of the weight up to it, by bisecting the levels.

@@ -21,9 +21,11 @@ pub struct Largest;
 fn farthest(list: Readings<'_>, level: i32) -> u64
     ensures { result ≡ largest_departs (rows_of list.entry) level }
 {
-    list.rows()
-        .iter()
-        .fold(0, |most: u64, row| most.max(distance_from(*row, level)))
+    let mut most: u64 = 0;
+    for row in list.rows() {
+        most = most.max(distance_from(*row, level));
+    }
+    most
 }
 
 // The smallest and the largest value.

@@ -16,7 +16,12 @@ pub struct Readings<'a> {
 fn scaled_count(rows: &[Reading]) -> usize
     ensures { result ≡ prefix_len on_scale rows.now }
 {
-    rows.iter().take_while(|row| row.is_on_scale()).count()
+    for (end, row) in rows.iter().enumerate() {
+        if !row.is_on_scale() {
+            return end;
+        }
+    }
+    rows.len()
 }
 
 impl<'a> Readings<'a> {
