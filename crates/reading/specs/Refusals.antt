@@ -47,6 +47,14 @@ site_of (WrongLength n) = AtStored
 site_of SizesDiffer = AtStored
 site_of (TooMany n) = AtStored
 
+-- where a refusal is checked, as a number
+abbrev pub site_number : Site → ℕ
+site_number AtReading = 1
+site_number AtProfile = 2
+site_number AtSupplied = 3
+site_number AtLetter = 4
+site_number AtStored = 5
+
 -- a refusal as text
 abbrev pub refusal_text : Refusal → List ℕ
 refusal_text e = codes "refused " ++ (decimal (number_of e) ++ (codes " " ++ decimal (place_of e)))

@@ -1,6 +1,6 @@
 // Every refusal of the library, with its number, its place and where it is checked.
 ghost use Rattle.std.specs.Prelude.{◌≡◌, Some};
-ghost use Rattle.reading.specs.Refusals.{number_of, place_of, refusal_text, site_of};
+ghost use Rattle.reading.specs.Refusals.{number_of, place_of, refusal_text, site_number, site_of};
 
 use std::fmt;
 
@@ -23,11 +23,19 @@ pub enum Refusal {
 // Where a refusal is checked.
 #[derive(Clone, Copy, PartialEq, Eq, Hash, Debug)]
 pub enum Site {
-    AtReading,
-    AtProfile,
-    AtSupplied,
-    AtLetter,
-    AtStored,
+    AtReading = 1,
+    AtProfile = 2,
+    AtSupplied = 3,
+    AtLetter = 4,
+    AtStored = 5,
+}
+
+impl From<Site> for u32 {
+    ghost from_gives = { λ site number. number ≡ site_number site };
+
+    fn from(site: Site) -> u32 {
+        site as u32
+    }
 }
 
 impl Refusal {
