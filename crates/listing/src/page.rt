@@ -1,7 +1,8 @@
 // A page: text that is put down in order, and only counted where the page has no room for it.
-ghost use Rattle.std.specs.Prelude.{◌≡◌, decimal};
-ghost use Rattle.std.specs.Fmt.{signed_decimal};
+ghost use Rattle.std.specs.Prelude.{◌≡◌};
 ghost use Rattle.listing.specs.Pages.{Printed};
+
+use itoa::{Buffer, Integer};
 
 // So a run over an empty page tells the room that the same run needs.
 #[derive(Drop)]
@@ -37,27 +38,10 @@ impl<'a> Page<'a> {
         }
     }
 
-    // A number in base ten, without leading zeros.
-    pub(crate) fn put_decimal(&mut self, number: u64)
-        ensures { Printed self.old (decimal number) self.new }
+    // A number in base ten, without leading zeros, a minus sign before one below zero.
+    pub(crate) fn put_number<I: Integer>(&mut self, number: I)
+        ensures { Printed self.old (I.text number) self.new }
     {
-        if number < 10 {
-            self.put(&[b'0' + number as u8]);
-            return;
-        }
-        self.put_decimal(number / 10);
-        self.put(&[b'0' + (number % 10) as u8]);
-    }
-
-    // A number in base ten, with a minus sign before one below zero.
-    pub(crate) fn put_signed(&mut self, number: i32)
-        ensures { Printed self.old (signed_decimal number) self.new }
-    {
-        if number >= 0 {
-            self.put_decimal(number as u64);
-            return;
-        }
-        self.put(b"-");
-        self.put_decimal(number.unsigned_abs() as u64);
+        self.put(Buffer::new().format(number).as_bytes());
     }
 }

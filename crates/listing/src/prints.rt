@@ -14,7 +14,7 @@ fn put_heading(page: &mut Page<'_>, letter: Letter, readings: usize)
     page.put(b"measure ");
     page.put(&[letter.byte()]);
     page.put(b" readings ");
-    page.put_decimal(readings as u64);
+    page.put_number(readings);
     page.put(b"\n");
 }
 

@@ -12,10 +12,10 @@ fn numbers_are_written_in_base_ten(rt: HostRuntime) {
     let mut bytes = [b'.'; 64];
     let mut page = Page::new(&mut bytes);
     for number in [0, 9, -9, 10, -30_000, 30_000, i32::MIN] {
-        page.put_signed(number);
+        page.put_number(number);
         page.put(b" ");
     }
-    page.put_decimal(u64::MAX);
+    page.put_number(u64::MAX);
     assert_eq!(rt; page.count(), 55);
     let text: &[u8] = &bytes;
     assert_eq!(rt;

@@ -8,4 +8,4 @@ unfolding heading
 returns c =
     let letter = printed_as _ _ _ _ (ap (λ b. b ∷ []) c.byte.ensures) c.put-2.ensures in
     printed_then _ _ _ _ _ c.put.ensures
-    (printed_then _ _ _ _ _ letter (printed_then _ _ _ _ _ c.put-3.ensures (printed_then _ _ _ _ _ c.put_decimal.ensures c.put-4.ensures)))
+    (printed_then _ _ _ _ _ letter (printed_then _ _ _ _ _ c.put-3.ensures (printed_then _ _ _ _ _ c.put_number.ensures c.put-4.ensures)))
