@@ -11,8 +11,11 @@ letter_byte Absolute = 65
 letter_byte Squared = 83
 letter_byte Largest = 76
 
+-- the measure that a byte names
+abbrev pub letter_named : ℕ → Result Letter Refusal
+letter_named b = cond (b == 65) (Ok Absolute) (cond (b == 83) (Ok Squared) (cond (b == 76) (Ok Largest) (Err (UnknownLetter b))))
+
 -- the measure that the first byte names
 abbrev pub letter_of : List ℕ → Result Letter Refusal
 letter_of [] = Err (UnknownLetter 0)
-letter_of (b ∷ bs) =
-    cond (b == 65) (Ok Absolute) (cond (b == 83) (Ok Squared) (cond (b == 76) (Ok Largest) (Err (UnknownLetter b))))
+letter_of (b ∷ bs) = letter_named b

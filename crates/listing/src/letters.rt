@@ -1,15 +1,42 @@
 // The letters that name the measures.
 ghost use Rattle.std.specs.Prelude.{◌≡◌};
-ghost use Rattle.listing.specs.Letters.{letter_byte, letter_of};
+ghost use Rattle.listing.specs.Letters.{letter_byte, letter_named, letter_of};
 
 use reading::Refusal;
 
 // A measure, by what it adds up or compares.
-#[derive(Clone, Copy, PartialEq, Debug)]
+#[derive(Clone, Copy, PartialEq, Eq, Hash, Debug)]
 pub enum Letter {
     Absolute,
     Squared,
     Largest,
+}
+
+impl TryFrom<u8> for Letter {
+    type Error = Refusal;
+
+    ghost try_from_gives = { λ byte named. named ≡ letter_named byte };
+
+    fn try_from(byte: u8) -> Result<Letter, Refusal> {
+        match byte {
+            b'A' => Ok(Letter::Absolute),
+            b'S' => Ok(Letter::Squared),
+            b'L' => Ok(Letter::Largest),
+            _ => Err(Refusal::UnknownLetter { byte }),
+        }
+    }
+}
+
+impl From<Letter> for u8 {
+    ghost from_gives = { λ letter byte. byte ≡ letter_byte letter };
+
+    fn from(letter: Letter) -> u8 {
+        match letter {
+            Letter::Absolute => b'A',
+            Letter::Squared => b'S',
+            Letter::Largest => b'L',
+        }
+    }
 }
 
 impl Letter {
@@ -19,20 +46,13 @@ impl Letter {
     {
         match input {
             [] => Err(Refusal::UnknownLetter { byte: 0 }),
-            [b'A', ..] => Ok(Letter::Absolute),
-            [b'S', ..] => Ok(Letter::Squared),
-            [b'L', ..] => Ok(Letter::Largest),
-            [byte, ..] => Err(Refusal::UnknownLetter { byte: *byte }),
+            [byte, ..] => Letter::try_from(*byte),
         }
     }
 
     pub fn byte(self) -> u8
         ensures { result ≡ letter_byte self }
     {
-        match self {
-            Letter::Absolute => b'A',
-            Letter::Squared => b'S',
-            Letter::Largest => b'L',
-        }
+        self.into()
     }
 }
