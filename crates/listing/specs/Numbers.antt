@@ -1,18 +1,8 @@
 -- The answer of the listing in plain numbers. Assumes nothing.
 use Rattle.std.specs.Prelude.{ℕ, Ok, Err, Result}
 use Rattle.reading.specs.declared.refusals.Refusal.{Refusal}
-use Rattle.reading.specs.declared.refusals.Site.{Site}
-use Rattle.reading.specs.declared.refusals.Site.TheVariants.{AtReading, AtProfile, AtSupplied, AtLetter, AtStored}
-use Rattle.reading.specs.Refusals.{number_of, place_of, site_of}
+use Rattle.reading.specs.Refusals.{number_of, place_of, site_number, site_of}
 use Rattle.listing.specs.declared.export.Answer.{Answer}
-
--- where a refusal is checked, as a number
-abbrev pub site_number : Site → ℕ
-site_number AtReading = 1
-site_number AtProfile = 2
-site_number AtSupplied = 3
-site_number AtLetter = 4
-site_number AtStored = 5
 
 -- a count, or a refusal with its number, its place and where it is checked
 abbrev pub answer_of : Result ℕ Refusal → Answer

@@ -1,15 +1,15 @@
 // The listing for a caller in C, with its answer in plain numbers.
-ghost use Rattle.std.specs.Prelude.{◌≡◌, Ok, Err};
+ghost use Rattle.std.specs.Prelude.{◌≡◌};
 ghost use Rattle.reading.specs.Lists.{delivered, filled};
 ghost use Rattle.listing.specs.Numbers.{answer_of};
 ghost use Rattle.listing.specs.Text.{listing_of};
 
 use crate::prints::listing;
-use reading::{Refusal, Site};
+use reading::Refusal;
 
 // A count, or a refusal. `number` is 0 where the call was granted; else `written` is 0.
 #[repr(C)]
-#[derive(Clone, Copy, PartialEq, Debug)]
+#[derive(Clone, Copy, PartialEq, Eq, Hash, Debug)]
 pub struct Answer {
     pub written: u64,
     pub place: u64,
@@ -17,32 +17,24 @@ pub struct Answer {
     pub site: u32,
 }
 
-fn granted(written: usize) -> Answer
-    ensures { result ≡ answer_of (Ok written) }
-{
-    Answer {
-        written: written as u64,
-        place: 0,
-        number: 0,
-        site: 0,
-    }
-}
+impl From<Result<usize, Refusal>> for Answer {
+    ghost from_gives = { λ told answer. answer ≡ answer_of told };
 
-fn declined(refusal: Refusal) -> Answer
-    ensures { result ≡ answer_of (Err refusal) }
-{
-    let site = match refusal.site() {
-        Site::AtReading => 1,
-        Site::AtProfile => 2,
-        Site::AtSupplied => 3,
-        Site::AtLetter => 4,
-        Site::AtStored => 5,
-    };
-    Answer {
-        written: 0,
-        place: refusal.place() as u64,
-        number: refusal.number() as u32,
-        site,
+    fn from(told: Result<usize, Refusal>) -> Answer {
+        match told {
+            Ok(written) => Answer {
+                written: written as u64,
+                place: 0,
+                number: 0,
+                site: 0,
+            },
+            Err(refusal) => Answer {
+                written: 0,
+                place: refusal.place() as u64,
+                number: refusal.number().into(),
+                site: refusal.site().into(),
+            },
+        }
     }
 }
 
@@ -51,8 +43,5 @@ pub fn fit_listing(input: &[u8], output: &mut [u8]) -> Answer
     ensures value { result ≡ answer_of (delivered (listing_of input.now) output.old) }
     ensures after { output.new ≡ filled (listing_of input.now) output.old }
 {
-    match listing(input, output) {
-        Ok(written) => granted(written),
-        Err(refusal) => declined(refusal),
-    }
+    Answer::from(listing(input, output))
 }
