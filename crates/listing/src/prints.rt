@@ -8,24 +8,33 @@ use crate::letters::Letter;
 use crate::page::Page;
 use reading::Refusal;
 
-fn put_heading(page: &mut Page<'_>, letter: Letter, readings: usize)
-    ensures { Printed page.old (heading letter readings) page.new }
-{
-    page.put(b"measure ");
-    page.put(&[letter.byte()]);
-    page.put(b" readings ");
-    page.put_number(readings);
-    page.put(b"\n");
+// What the first line tells.
+#[derive(Clone, Copy)]
+struct Heading {
+    letter: Letter,
+    readings: usize,
 }
 
-// Prints a listing from the front of a slice on, if it fits there, and answers how long it is.
-fn print(letter: Letter, readings: usize, output: &mut [u8]) -> usize
-    ensures value { result ≡ length (heading letter readings) }
-    ensures after { result ≤ length output.old → output.new ≡ put_from 0 (heading letter readings) output.old }
-{
-    let mut page = Page::new(output);
-    put_heading(&mut page, letter, readings);
-    page.count()
+impl Heading {
+    fn put(self, page: &mut Page<'_>)
+        ensures { Printed page.old (heading self.letter self.readings) page.new }
+    {
+        page.put(b"measure ");
+        page.put(&[self.letter.byte()]);
+        page.put(b" readings ");
+        page.put_number(self.readings);
+        page.put(b"\n");
+    }
+
+    // Prints the line from the front of a slice on, if it fits there, and answers how long it is.
+    fn print(self, output: &mut [u8]) -> usize
+        ensures value { result ≡ length (heading self.letter self.readings) }
+        ensures after { result ≤ length output.old → output.new ≡ put_from 0 (heading self.letter self.readings) output.old }
+    {
+        let mut page = Page::new(output);
+        self.put(&mut page);
+        page.count()
+    }
 }
 
 // Writes the listing of a letter and the stored profile behind it, and answers its length.
@@ -36,10 +45,11 @@ pub fn listing(input: &[u8], output: &mut [u8]) -> Result<usize, Refusal>
 {
     let letter = Letter::of(input)?;
     let readings = stored::check(&input[1..])?;
-    let needed = print(letter, readings, &mut []);
+    let heading = Heading { letter, readings };
+    let needed = heading.print(&mut []);
     if needed > output.len() {
         return Err(Refusal::TooLittleRoom { needed });
     }
-    print(letter, readings, output);
+    heading.print(output);
     Ok(needed)
 }
