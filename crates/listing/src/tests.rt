@@ -7,6 +7,16 @@ use reading::Refusal;
 // S and the reading -1 of weight 1,000.
 const SAMPLE: [u8; 9] = [b'S', 1, 0, 1, 0, 0xff, 0xff, 0xe8, 0x03];
 
+// The answer of a refusal.
+fn declined(number: u32, place: u64, site: u32) -> Answer {
+    Answer {
+        written: 0,
+        place,
+        number,
+        site,
+    }
+}
+
 #[test]
 fn numbers_are_written_in_base_ten(rt: HostRuntime) {
     let mut bytes = [b'.'; 64];
@@ -17,10 +27,9 @@ fn numbers_are_written_in_base_ten(rt: HostRuntime) {
     }
     page.put_number(u64::MAX);
     assert_eq!(rt; page.count(), 55);
-    let text: &[u8] = &bytes;
     assert_eq!(rt;
-        text,
-        b"0 9 -9 10 -30000 30000 -2147483648 18446744073709551615.........".as_slice()
+        bytes,
+        *b"0 9 -9 10 -30000 30000 -2147483648 18446744073709551615........."
     );
 }
 
@@ -32,23 +41,20 @@ fn a_page_counts_what_it_has_no_room_for(rt: HostRuntime) {
     page.put(b"de");
     page.put(b"f");
     assert_eq!(rt; page.count(), 6);
-    let text: &[u8] = &bytes;
-    assert_eq!(rt; text, b"abc.".as_slice());
+    assert_eq!(rt; bytes, *b"abc.");
 }
 
 #[test]
 fn a_listing_fits_or_is_refused_whole(rt: HostRuntime) {
     let mut output = [b'.'; 22];
     assert_eq!(rt; listing(&SAMPLE, &mut output), Ok(21));
-    let text: &[u8] = &output;
-    assert_eq!(rt; text, b"measure S readings 1\n.".as_slice());
+    assert_eq!(rt; output, *b"measure S readings 1\n.");
     let mut output = [b'.'; 20];
     assert_eq!(rt;
         listing(&SAMPLE, &mut output),
         Err(Refusal::TooLittleRoom { needed: 21 })
     );
-    let text: &[u8] = &output;
-    assert_eq!(rt; text, [b'.'; 20].as_slice());
+    assert_eq!(rt; output, [b'.'; 20]);
 }
 
 #[test]
@@ -63,31 +69,7 @@ fn an_answer_in_numbers_tells_the_same(rt: HostRuntime) {
             site: 0,
         }
     );
-    assert_eq!(rt;
-        fit_listing(b"?", &mut output),
-        Answer {
-            written: 0,
-            place: 63,
-            number: 8,
-            site: 4,
-        }
-    );
-    assert_eq!(rt;
-        fit_listing(b"A", &mut output),
-        Answer {
-            written: 0,
-            place: 0,
-            number: 9,
-            site: 5,
-        }
-    );
-    assert_eq!(rt;
-        fit_listing(&SAMPLE, &mut []),
-        Answer {
-            written: 0,
-            place: 21,
-            number: 7,
-            site: 3,
-        }
-    );
+    assert_eq!(rt; fit_listing(b"?", &mut output), declined(8, 63, 4));
+    assert_eq!(rt; fit_listing(b"A", &mut output), declined(9, 0, 5));
+    assert_eq!(rt; fit_listing(&SAMPLE, &mut []), declined(7, 21, 3));
 }
