@@ -18,10 +18,10 @@ pub struct Answer {
 }
 
 impl From<Result<usize, Refusal>> for Answer {
-    ghost from_gives = { λ told answer. answer ≡ answer_of told };
+    ghost from_gives = { λ outcome answer. answer ≡ answer_of outcome };
 
-    fn from(told: Result<usize, Refusal>) -> Answer {
-        match told {
+    fn from(outcome: Result<usize, Refusal>) -> Answer {
+        match outcome {
             Ok(written) => Answer {
                 written: written as u64,
                 place: 0,
