@@ -27,6 +27,8 @@ impl Heading {
     }
 
     // Prints the line from the front of a slice on, if it fits there, and answers how long it is.
+    // Inlined, a run over no bytes comes to its count alone.
+    #[inline]
     fn print(self, output: &mut [u8]) -> usize
         ensures value { result ≡ length (heading self.letter self.readings) }
         ensures after { result ≤ length output.old → output.new ≡ put_from 0 (heading self.letter self.readings) output.old }
