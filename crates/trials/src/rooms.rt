@@ -1,6 +1,4 @@
 // The listing into every room, from none to more than enough: it is the same, and what is beyond it stays.
-ghost use Rattle.std.specs.Prelude.{◌≤◌};
-
 use crate::ROOM;
 use listing::listing;
 use reading::Refusal;
@@ -14,11 +12,9 @@ pub(crate) fn untouched(bytes: &[u8]) -> bool {
 }
 
 // Whether the listing into so much room is the whole one or none, and left everything else as it was.
-fn keeps(input: &[u8], whole: &[u8], room: usize) -> bool
-    requires { room ≤ ROOM }
-{
+fn keeps(input: &[u8], whole: &[u8], room: usize) -> bool {
     let mut output = [FILLER; ROOM];
-    match listing(input, &mut output[..room]) {
+    match listing(input, &mut output[..room.min(ROOM)]) {
         Ok(count) => &output[..count] == whole && untouched(&output[count..]),
         Err(Refusal::TooLittleRoom { needed }) => needed > room && untouched(&output),
         Err(_) => false,

@@ -1,6 +1,4 @@
 // Random readings, written and read back, and what was read written again.
-ghost use Rattle.std.specs.Prelude.{◌≤◌};
-
 use crate::random::Random;
 use crate::rooms::FILLER;
 use reading::{LIMIT, Reading, Readings};
@@ -38,11 +36,9 @@ fn read_back(alloc: Global, bytes: &[u8]) -> Result<Option<Vec<Reading>>, AllocE
 }
 
 // Whether so many random readings come back as they were, from bytes that come back too.
-fn returns(alloc: Global, random: &mut Random, count: usize) -> Result<bool, AllocError>
-    requires { count ≤ LIMIT }
-{
+fn returns(alloc: Global, random: &mut Random, count: usize) -> Result<bool, AllocError> {
     let rows: [Reading; LIMIT] = array::from_fn(|_| random.reading());
-    let rows = &rows[..count];
+    let rows = &rows[..count.min(LIMIT)];
     let Some(bytes) = written(alloc, rows)? else {
         return Ok(false);
     };
