@@ -1,5 +1,6 @@
 pub mod Pairs
-pub mod Table
+pub mod Rows
+pub mod Admits
 pub mod Trips
-pub mod Headers
+pub mod Decodes
 pub mod Lays

@@ -1,6 +1,6 @@
 -- The stored form of a list of readings, both ways. Assumes nothing.
 use Rattle.std.specs.Prelude.{ℕ, ◌+◌, ◌*◌, cond, List, [], ◌∷◌, ◌++◌, map, length, take, drop, ℤ, Ok, Err, Result, ◌==◌, nat_le}
-use Rattle.std.specs.List.{flat_map}
+use Rattle.std.specs.List.{flat_map, zip}
 use Rattle.reading.specs.declared.refusals.Refusal.{Refusal}
 use Rattle.reading.specs.declared.refusals.Refusal.TheVariants.{WrongLength, SizesDiffer, TooMany}
 use Rattle.reading.specs.declared.scale.Reading.{Reading}
@@ -12,9 +12,7 @@ use Rattle.stored.specs.Words.{word, split, words, from_complement, to_complemen
 
 -- a value beside each weight
 abbrev pub paired : List ℤ → List ℕ → List Reading
-paired [] ws = []
-paired (v ∷ vs) [] = []
-paired (v ∷ vs) (w ∷ ws) = record { value = v; weight = w } ∷ paired vs ws
+paired vs ws = map (λ pair. record { value = pair.0; weight = pair.1 }) (zip vs ws)
 
 -- the n values and n weights that are stored behind the sizes, whether on the scale or not
 abbrev pub stored_rows : ℕ → List ℕ → List Reading

@@ -1,2 +1,4 @@
 pub mod Words
 pub mod Forms
+pub mod Rows
+pub mod Tables

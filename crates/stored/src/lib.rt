@@ -3,6 +3,7 @@
 
 mod columns;
 mod reads;
+mod table;
 mod words;
 mod writes;
 

@@ -1,20 +1,16 @@
-use Rattle.std.proofs.Common.{◌≡◌, ◌+◌, ◌*◌, ◌≤◌, length, Ok, ap, ◌∙◌, arith}
-use Rattle.std.proofs.lemmas.List.{take_rest}
+use Rattle.std.proofs.Common.{◌≡◌, ◌<◌, length, Ok, rules}
+use Rattle.std.proofs.lemmas.List.Elements.{All-from_get_or}
 use Rattle.reading.specs.Results.{then}
-use Rattle.reading.specs.Scale.{limit}
-use Rattle.stored.specs.Forms.{all_admitted, stored_rows}
-use Rattle.stored.specs.Words.{word_at}
-use Rattle.stored.proofs.Headers.{checked}
+use Rattle.stored.specs.Forms.{decoded}
+use Rattle.stored.proofs.Decodes.{counted_rows, decoded_exact}
 use Rattle.stored.proofs.reads.check.Goals as goal
 
 pub returns : goal.returns
 returns c =
     let bs = c.args.bytes.now in
-    let n = c.from_le_bytes-values.result in
-    let first : n ≡ word_at bs 0 = c.from_le_bytes-values.ensures in
-    let second : n ≡ word_at bs 1 = omega (arith, c.from_le_bytes-weights.ensures) in
-    let few : n ≤ limit = omega arith in
-    let long : length bs ≡ 4 + 4 * n = omega arith in
-    let all = checked bs n first second few long (λ k. (c.type_inv.bytes k).fits) c.check_rows.result
-    (c.check_rows.ensures ∙ ap (λ xs. then (all_admitted 1 (stored_rows n xs)) (λ _. Ok n)) (take_rest bs 4)) in
-    record { value = all.0; rows = all.1; exact = all.2 }
+    let counted : c.map.result ≡ then (decoded bs) (λ rs. Ok (length rs)) = search rules in
+    record {
+      value = counted;
+      rows = counted_rows bs c.map.result counted;
+      exact = decoded_exact bs (All-from_get_or (λ x. x < 256) bs 0 (λ k h. (c.type_inv.bytes k).fits));
+    }

@@ -1,0 +1,59 @@
+-- When readings are all admitted, and which refusal comes otherwise.
+use Rattle.std.proofs.Common.{◌≡◌, ℕ, zero, suc, ◌+◌, ◌<◌, Bool, true, false, cond, List, [], ◌∷◌, length, get_or, take, Ok, Err, Result, sym, refl, ap, ◌∙◌, add-zero, arith}
+use Rattle.std.specs.List.{All}
+use Rattle.std.proofs.lemmas.Bool.{and_from, and_parts, cond-true}
+use Rattle.std.proofs.lemmas.List.Elements.{All-head, All-tail}
+use Rattle.reading.specs.declared.refusals.Refusal.{Refusal}
+use Rattle.reading.specs.declared.refusals.Refusal.TheVariants.{ValueOffScale, WeightOffScale}
+use Rattle.reading.specs.declared.scale.Reading.{Reading}
+use Rattle.reading.specs.Results.{then}
+use Rattle.reading.specs.Scale.{admitted, is_level, is_weight, on_scale, OnScale, Scaled}
+use Rattle.reading.proofs.Verdicts.{then_granted}
+use Rattle.stored.specs.Forms.{all_admitted}
+
+-- what is granted behind a test has passed it
+pub passed : {X E : Type 0} (b : Bool) (r : Result X E) (e : E) (x : X) → cond b r (Err e) ≡ Ok x → (b ≡ true) × (r ≡ Ok x)
+passed true r e x h = (refl, h)
+passed false r e x h = absurd (let z : ◌≡◌ {A = ℕ} 0 1 = cc in omega arith)
+
+pub scaled_from_admitted : (r x : Reading) (p : ℕ) → Ok x ≡ admitted r p → OnScale r
+scaled_from_admitted r x p h =
+    let level = passed (is_level r.value) (cond (is_weight r.weight) (Ok r) (Err (WeightOffScale p))) (ValueOffScale p) x (sym h) in
+    and_from (is_level r.value) (is_weight r.weight) level.0 (passed (is_weight r.weight) (Ok r) (WeightOffScale p) x level.1).0
+
+-- a reading on the scale is admitted anywhere
+admits : (r : Reading) (p : ℕ) → OnScale r → admitted r p ≡ Ok r
+admits r p h =
+    let both = and_parts (is_level r.value) (is_weight r.weight) h in
+    cond-true (is_level r.value) _ _ both.0 ∙ cond-true (is_weight r.weight) _ _ both.1
+
+-- readings on the scale go on to the next
+on_admitted : (p : ℕ) (r : Reading) (rs : List Reading) → OnScale r → all_admitted p (r ∷ rs) ≡ then (all_admitted (p + 1) rs) (λ xs. Ok (r ∷ xs))
+on_admitted p r rs h = ap (λ q. then q (λ _. then (all_admitted (p + 1) rs) (λ xs. Ok (r ∷ xs)))) (admits r p h)
+
+pub all_admits : (p : ℕ) (rs : List Reading) → Scaled rs → all_admitted p rs ≡ Ok rs
+all_admits p [] all = refl
+all_admits p (r ∷ rs) all =
+    on_admitted p r rs (All-head OnScale r rs all) ∙ ap (λ q. then q (λ xs. Ok (r ∷ xs))) (all_admits (p + 1) rs (All-tail OnScale r rs all))
+
+-- the first reading that is refused refuses the list
+pub refused_first :
+    (p : ℕ) (rs : List Reading) (i : ℕ) (d : Reading) (e : Refusal) → i < length rs → Scaled (take i rs) → Err e ≡ admitted (get_or rs i d) (p + i)
+    → Err e ≡ all_admitted p rs
+refused_first p [] i d e within all h = absurd (omega arith)
+refused_first p (r ∷ rs) zero d e within all h =
+    ap (λ q. then q (λ _. then (all_admitted (p + 1) rs) (λ xs. Ok (r ∷ xs)))) (h ∙ ap (admitted r) (add-zero p))
+refused_first p (r ∷ rs) (suc i) d e within all h =
+    let next : p + suc i ≡ p + 1 + i = omega arith in
+    let rest = refused_first (p + 1) rs i d e (omega arith) (All-tail OnScale r (take i rs) all) (h ∙ ap (admitted (get_or rs i d)) next) in
+    ap (λ q. then q (λ xs. Ok (r ∷ xs))) rest ∙ sym (on_admitted p r rs (All-head OnScale r (take i rs) all))
+
+-- readings that are all admitted are the readings that came
+pub all_admitted_same : (p : ℕ) (rs xs : List Reading) → all_admitted p rs ≡ Ok xs → xs ≡ rs
+all_admitted_same p [] xs h = cc
+all_admitted_same p (r ∷ rs) xs h =
+    let outer = then_granted (admitted r p) (λ _. then (all_admitted (p + 1) rs) (λ ys. Ok (r ∷ ys))) xs h in
+    let inner = then_granted (all_admitted (p + 1) rs) (λ ys. Ok (r ∷ ys)) xs outer.2 in
+    let e = all_admitted_same (p + 1) rs inner.0 inner.1 in
+    let k : r ∷ inner.0 ≡ xs = let w = inner.2 in cc in
+    sym k ∙ ap (λ ys. r ∷ ys) e
