@@ -61,13 +61,13 @@ decoded_granted (a ∷ b ∷ c ∷ d ∷ rest) rs h =
       granted.2 ∙ ap (λ k. stored_rows k rest) (sym counted),
       omega (arith, granted.1),
       λ all.
-        let first : split (length rs) ≡ a ∷ b ∷ [] = ap split counted ∙ split_word a b (all 0 0 (omega arith)) (all 1 0 (omega arith)) in
-        let second : split (length rs) ≡ c ∷ d ∷ [] = ap split (counted ∙ granted.0) ∙ split_word c d (all 2 0 (omega arith)) (all 3 0 (omega arith)) in
-        let columns : column_bytes Values rs ++ column_bytes Weights rs ≡ rest =
-        ap (λ xs. column_bytes Values xs ++ column_bytes Weights xs) granted.2 ∙ exact.1 (λ k e i. all (suc (suc (suc (suc k)))) e (omega arith)) in
-        ap (λ xs. xs ++ (split (length rs) ++ (column_bytes Values rs ++ column_bytes Weights rs))) first
-        ∙ ap (λ xs. a ∷ b ∷ (xs ++ (column_bytes Values rs ++ column_bytes Weights rs))) second
-        ∙ ap (λ xs. a ∷ b ∷ c ∷ d ∷ xs) columns,
+          let first : split (length rs) ≡ a ∷ b ∷ [] = ap split counted ∙ split_word a b (all 0 0 (omega arith)) (all 1 0 (omega arith)) in
+          let second : split (length rs) ≡ c ∷ d ∷ [] = ap split (counted ∙ granted.0) ∙ split_word c d (all 2 0 (omega arith)) (all 3 0 (omega arith)) in
+          let columns : column_bytes Values rs ++ column_bytes Weights rs ≡ rest =
+          ap (λ xs. column_bytes Values xs ++ column_bytes Weights xs) granted.2 ∙ exact.1 (λ k e i. all (suc (suc (suc (suc k)))) e (omega arith)) in
+          ap (λ xs. xs ++ (split (length rs) ++ (column_bytes Values rs ++ column_bytes Weights rs))) first
+          ∙ ap (λ xs. a ∷ b ∷ (xs ++ (column_bytes Values rs ++ column_bytes Weights rs))) second
+          ∙ ap (λ xs. a ∷ b ∷ c ∷ d ∷ xs) columns,
     )
 
 pub decoded_exact : (bs : List ℕ) → Bytes bs → (rs : List Reading) → decoded bs ≡ Ok rs → encoded rs ≡ bs

@@ -108,9 +108,9 @@ rows_exact n rest long =
     let ml = length-map (words front) from_complement in (
       length-map (zip (map from_complement (words front)) (words back)) _ ∙ omega arith,
       λ all.
-        let vs : column_bytes Values (stored_rows n rest) ≡ front =
-        values_of_paired (words front) (words back) (vl ∙ sym wl) (words_below front (All-take (λ x. x < 256) (2 * n) rest all)) ∙ split_words front n fl (All-take (λ x. x < 256) (2 * n) rest all) in
-        let ws : column_bytes Weights (stored_rows n rest) ≡ back =
-        weights_of_paired (map from_complement (words front)) (words back) (ml ∙ vl ∙ sym wl) ∙ split_words back n bl (All-drop (λ x. x < 256) (2 * n) rest all) in
-        ap (λ xs. xs ++ column_bytes Weights (stored_rows n rest)) vs ∙ ap (λ xs. front ++ xs) ws ∙ take-append-drop (2 * n) rest,
+          let vs : column_bytes Values (stored_rows n rest) ≡ front =
+          values_of_paired (words front) (words back) (vl ∙ sym wl) (words_below front (All-take (λ x. x < 256) (2 * n) rest all)) ∙ split_words front n fl (All-take (λ x. x < 256) (2 * n) rest all) in
+          let ws : column_bytes Weights (stored_rows n rest) ≡ back =
+          weights_of_paired (map from_complement (words front)) (words back) (ml ∙ vl ∙ sym wl) ∙ split_words back n bl (All-drop (λ x. x < 256) (2 * n) rest all) in
+          ap (λ xs. xs ++ column_bytes Weights (stored_rows n rest)) vs ∙ ap (λ xs. front ++ xs) ws ∙ take-append-drop (2 * n) rest,
     )

@@ -5,122 +5,117 @@ use reading::{Reading, Readings, Refusal};
 use std::alloc::{AllocError, Global};
 use std::test::Fail;
 
+const ROWS: [Reading; 2] = [
+    Reading {
+        value: 258,
+        weight: 1,
+    },
+    Reading {
+        value: -1,
+        weight: 1_000,
+    },
+];
+
 const WORKED: [u8; 12] = [
     0x02, 0x00, 0x02, 0x00, 0x02, 0x01, 0xff, 0xff, 0x01, 0x00, 0xe8, 0x03,
 ];
 
-// Bytes that claim `size` readings and hold `count`: 0 of weight 1, but for the one at `place`.
+// What a caller's list holds before a call.
+const BEFORE: Reading = Reading {
+    value: 5,
+    weight: 5,
+};
+
+// A reading that is not as the others are.
+#[derive(Clone, Copy)]
+struct Odd {
+    place: usize,
+    value: i16,
+    weight: u16,
+}
+
+// Adds a column whose cells are all alike, but for the one at a place.
+fn add_column(
+    bytes: &mut Vec<u8>,
+    count: usize,
+    usual: u16,
+    odd: Option<(usize, u16)>,
+) -> Result<(), AllocError> {
+    for place in 1..=count {
+        let cell = match odd {
+            Some((at, other)) if at == place => other,
+            _ => usual,
+        };
+        bytes.extend_from_slice(&cell.to_le_bytes())?;
+    }
+    Ok(())
+}
+
+// Bytes that claim `size` readings and hold `count`: 0 of weight 1, but for the odd one.
 fn bytes_of(
     heap: Global,
     size: u16,
     count: usize,
-    place: usize,
-    value: i16,
-    weight: u16,
+    odd: Option<Odd>,
 ) -> Result<Vec<u8>, AllocError> {
     let mut bytes = Vec::new(heap);
     bytes.extend_from_slice(&size.to_le_bytes())?;
     bytes.extend_from_slice(&size.to_le_bytes())?;
-    for i in 0..count {
-        let cell = if i.saturating_add(1) == place {
-            value
-        } else {
-            0
-        };
-        bytes.extend_from_slice(&cell.to_le_bytes())?;
-    }
-    for i in 0..count {
-        let cell = if i.saturating_add(1) == place {
-            weight
-        } else {
-            1
-        };
-        bytes.extend_from_slice(&cell.to_le_bytes())?;
-    }
+    let value = odd.map(|odd| (odd.place, odd.value.cast_unsigned()));
+    let weight = odd.map(|odd| (odd.place, odd.weight));
+    add_column(&mut bytes, count, 0, value)?;
+    add_column(&mut bytes, count, 1, weight)?;
     Ok(bytes)
+}
+
+// The bytes of as many readings as can be stored, one of them odd.
+fn bytes_with(heap: Global, odd: Odd) -> Result<Vec<u8>, AllocError> {
+    bytes_of(heap, 1_024, 1_024, Some(odd))
 }
 
 #[test]
 fn worked_bytes_are_written_and_read(rt: HostRuntime) {
-    let rows = [
-        Reading {
-            value: 258,
-            weight: 1,
-        },
-        Reading {
-            value: -1,
-            weight: 1_000,
-        },
-    ];
     let mut bytes = [7u8; 14];
-    assert_eq!(rt; write(Readings::of(&rows), &mut bytes), Ok(12));
+    assert_eq!(rt; write(Readings::of(&ROWS), &mut bytes), Ok(12));
     assert_eq!(rt; &bytes[0..12], WORKED.as_slice());
     assert_eq!(rt; &bytes[12..14], [7, 7].as_slice());
-    let mut back = [Reading {
-        value: 5,
-        weight: 5,
-    }; 3];
+    let mut back = [BEFORE; 3];
     assert_eq!(rt; read(&WORKED, &mut back), Ok(2));
-    assert_eq!(rt; &back[0..2], rows.as_slice());
-    assert_eq!(rt;
-        back[2],
-        Reading {
-            value: 5,
-            weight: 5,
-        }
-    );
+    assert_eq!(rt; &back[0..2], ROWS.as_slice());
+    assert_eq!(rt; back[2], BEFORE);
 }
 
 #[test]
 fn want_of_room_changes_nothing(rt: HostRuntime) {
-    let rows = [
-        Reading {
-            value: 258,
-            weight: 1,
-        },
-        Reading {
-            value: -1,
-            weight: 1_000,
-        },
-    ];
     let mut bytes = [7u8; 11];
     assert_eq!(rt;
-        write(Readings::of(&rows), &mut bytes),
+        write(Readings::of(&ROWS), &mut bytes),
         Err(Refusal::TooLittleRoom { needed: 12 })
     );
     assert_eq!(rt; &bytes[0..11], [7u8; 11].as_slice());
-    let mut back = [Reading {
-        value: 5,
-        weight: 5,
-    }; 1];
+    let mut back = [BEFORE; 1];
     assert_eq!(rt;
         read(&WORKED, &mut back),
         Err(Refusal::TooLittleRoom { needed: 2 })
     );
-    assert_eq!(rt;
-        back[0],
-        Reading {
-            value: 5,
-            weight: 5,
-        }
-    );
+    assert_eq!(rt; back[0], BEFORE);
 }
 
 #[test]
 fn sizes_up_to_the_limit_are_granted(rt: HostRuntime) -> Result<(), Fail> {
     let heap = rt.alloc();
-    assert_eq!(rt; check_stored(&bytes_of(heap, 0, 0, 0, 0, 0)?), Ok(0));
-    assert_eq!(rt; check_stored(&bytes_of(heap, 1, 1, 0, 0, 0)?), Ok(1));
+    assert_eq!(rt; check_stored(&bytes_of(heap, 0, 0, None)?), Ok(0));
+    assert_eq!(rt; check_stored(&bytes_of(heap, 1, 1, None)?), Ok(1));
     assert_eq!(rt;
-        check_stored(&bytes_of(heap, 1_024, 1_024, 0, 0, 0)?),
+        check_stored(&bytes_of(heap, 1_024, 1_024, None)?),
         Ok(1_024)
     );
     assert_eq!(rt;
-        check_stored(&bytes_of(heap, 1_025, 1_025, 0, 0, 0)?),
+        check_stored(&bytes_of(heap, 1_025, 1_025, None)?),
         Err(Refusal::TooMany { size: 1_025 })
     );
     assert_eq!(rt;
-        check_stored(&bytes_of(heap, 65_535, 0, 0, 0, 0)?),
+        check_stored(&bytes_of(heap, 65_535, 0, None)?),
         Err(Refusal::TooMany { size: 65_535 })
     );
     Ok(())
@@ -130,18 +125,48 @@ fn sizes_up_to_the_limit_are_granted(rt: HostRuntime) -> Result<(), Fail> {
 fn off_the_scale_is_refused_at_its_place(rt: HostRuntime) -> Result<(), Fail> {
     let heap = rt.alloc();
     for place in [1usize, 2, 1_023, 1_024] {
-        let low = check_stored(&bytes_of(heap, 1_024, 1_024, place, -30_001, 0)?);
-        assert_eq!(rt; low, Err(Refusal::ValueOffScale { place }));
-        let high = check_stored(&bytes_of(heap, 1_024, 1_024, place, 30_001, 1_001)?);
-        assert_eq!(rt; high, Err(Refusal::ValueOffScale { place }));
-        let light = check_stored(&bytes_of(heap, 1_024, 1_024, place, -30_000, 0)?);
-        assert_eq!(rt; light, Err(Refusal::WeightOffScale { place }));
-        let heavy = check_stored(&bytes_of(heap, 1_024, 1_024, place, 30_000, 1_001)?);
-        assert_eq!(rt; heavy, Err(Refusal::WeightOffScale { place }));
+        let low = Odd {
+            place,
+            value: -30_001,
+            weight: 0,
+        };
         assert_eq!(rt;
-            check_stored(&bytes_of(heap, 1_024, 1_024, place, -30_000, 1_000)?),
-            Ok(1_024)
+            check_stored(&bytes_with(heap, low)?),
+            Err(Refusal::ValueOffScale { place })
         );
+        let high = Odd {
+            place,
+            value: 30_001,
+            weight: 1_001,
+        };
+        assert_eq!(rt;
+            check_stored(&bytes_with(heap, high)?),
+            Err(Refusal::ValueOffScale { place })
+        );
+        let light = Odd {
+            place,
+            value: -30_000,
+            weight: 0,
+        };
+        assert_eq!(rt;
+            check_stored(&bytes_with(heap, light)?),
+            Err(Refusal::WeightOffScale { place })
+        );
+        let heavy = Odd {
+            place,
+            value: 30_000,
+            weight: 1_001,
+        };
+        assert_eq!(rt;
+            check_stored(&bytes_with(heap, heavy)?),
+            Err(Refusal::WeightOffScale { place })
+        );
+        let last = Odd {
+            place,
+            value: -30_000,
+            weight: 1_000,
+        };
+        assert_eq!(rt; check_stored(&bytes_with(heap, last)?), Ok(1_024));
     }
     Ok(())
 }
