@@ -1,20 +1,19 @@
 -- When readings are all admitted, and which refusal comes otherwise.
 use Rattle.std.proofs.Common.{◌≡◌, ℕ, zero, suc, ◌+◌, ◌<◌, Bool, true, false, cond, List, [], ◌∷◌, length, get_or, take, Ok, Err, Result, sym, refl, ap, ◌∙◌, add-zero, arith}
-use Rattle.std.specs.List.{All}
 use Rattle.std.proofs.lemmas.Bool.{and_from, and_parts, cond-true}
 use Rattle.std.proofs.lemmas.List.Elements.{All-head, All-tail}
 use Rattle.reading.specs.declared.refusals.Refusal.{Refusal}
 use Rattle.reading.specs.declared.refusals.Refusal.TheVariants.{ValueOffScale, WeightOffScale}
 use Rattle.reading.specs.declared.scale.Reading.{Reading}
 use Rattle.reading.specs.Results.{then}
-use Rattle.reading.specs.Scale.{admitted, is_level, is_weight, on_scale, OnScale, Scaled}
+use Rattle.reading.specs.Scale.{admitted, is_level, is_weight, OnScale, Scaled}
 use Rattle.reading.proofs.Verdicts.{then_granted}
 use Rattle.stored.specs.Forms.{all_admitted}
 
 -- what is granted behind a test has passed it
 pub passed : {X E : Type 0} (b : Bool) (r : Result X E) (e : E) (x : X) → cond b r (Err e) ≡ Ok x → (b ≡ true) × (r ≡ Ok x)
 passed true r e x h = (refl, h)
-passed false r e x h = absurd (let z : ◌≡◌ {A = ℕ} 0 1 = cc in omega arith)
+passed false r e x h = absurd cc
 
 pub scaled_from_admitted : (r x : Reading) (p : ℕ) → Ok x ≡ admitted r p → OnScale r
 scaled_from_admitted r x p h =

@@ -1,7 +1,7 @@
 -- What stored bytes decode to: the rows behind the sizes, and no two stored profiles the same.
-use Rattle.std.proofs.Common.{◌≡◌, ℕ, suc, ◌+◌, ◌*◌, ◌/◌, ◌≤◌, eqb, leb, List, [], ◌∷◌, ◌++◌, cond, length, get_or, take, drop, IfOk, Ok, Err, Result, sym, refl, ap, ◌∙◌, arith}
+use Rattle.std.proofs.Common.{◌≡◌, ℕ, suc, ◌+◌, ◌*◌, ◌/◌, ◌≤◌, eqb, leb, List, [], ◌∷◌, ◌++◌, cond, length, get_or, take, drop, IfOk, Ok, Err, Result, sym, ap, ◌∙◌, arith}
 use Rattle.std.specs.Simd.{first_chunks}
-use Rattle.std.proofs.lemmas.Bool.{eqb-true, leb-true}
+use Rattle.std.proofs.lemmas.Bool.{eqb-true}
 use Rattle.reading.specs.declared.refusals.Refusal.{Refusal}
 use Rattle.reading.specs.declared.refusals.Refusal.TheVariants.{WrongLength, SizesDiffer, TooMany}
 use Rattle.reading.specs.declared.scale.Reading.{Reading}
@@ -17,22 +17,22 @@ use Rattle.stored.proofs.Pairs.{Bytes, split_word}
 use Rattle.stored.proofs.Rows.{rows_stored}
 use Rattle.stored.proofs.Trips.{rows_exact, sized_is}
 
--- bytes taken two by two: the pairs of the sizes agree, and the table is behind them
+-- bytes taken two by two: behind the pairs of the sizes, which agree, are the pairs of the table
 pub table_decoded :
-    (bs : List ℕ) (n : ℕ) (pairs vs ws : List (List ℕ)) → pairs ≡ first_chunks 2 (length bs / 2) bs → vs ≡ take n (drop 2 pairs) → ws ≡ drop n (drop 2 pairs)
+    (bs : List ℕ) (n : ℕ) (pairs : List (List ℕ)) → pairs ≡ first_chunks 2 (length bs / 2) bs
     → n ≡ number (get_or pairs 0 []) → n ≡ number (get_or pairs 1 []) → n ≤ limit → length bs ≡ 4 + 4 * n
-    → decoded bs ≡ all_admitted 1 (rows_from vs ws)
-table_decoded [] n pairs vs ws p v w first second few long = absurd (omega arith)
-table_decoded (a ∷ []) n pairs vs ws p v w first second few long = absurd (omega arith)
-table_decoded (a ∷ b ∷ []) n pairs vs ws p v w first second few long = absurd (omega arith)
-table_decoded (a ∷ b ∷ c ∷ []) n pairs vs ws p v w first second few long = absurd (omega arith)
-table_decoded (a ∷ b ∷ c ∷ d ∷ rest) n pairs vs ws p v w first second few long =
+    → decoded bs ≡ all_admitted 1 (rows_from (take n (drop 2 pairs)) (drop n (drop 2 pairs)))
+table_decoded [] n pairs p first second few long = absurd (omega arith)
+table_decoded (a ∷ []) n pairs p first second few long = absurd (omega arith)
+table_decoded (a ∷ b ∷ []) n pairs p first second few long = absurd (omega arith)
+table_decoded (a ∷ b ∷ c ∷ []) n pairs p first second few long = absurd (omega arith)
+table_decoded (a ∷ b ∷ c ∷ d ∷ rest) n pairs p first second few long =
     let half : length (a ∷ b ∷ c ∷ d ∷ rest) / 2 ≡ suc (suc (2 * n)) = omega arith in
     let q : pairs ≡ (a ∷ b ∷ []) ∷ (c ∷ d ∷ []) ∷ first_chunks 2 (2 * n) rest = p ∙ ap (λ k. first_chunks 2 k (a ∷ b ∷ c ∷ d ∷ rest)) half in
     let m : n ≡ word a b = first ∙ ap (λ ps. number (get_or ps 0 [])) q in
     let k : n ≡ word c d = second ∙ ap (λ ps. number (get_or ps 1 [])) q in
     ap (λ i. sized i (word c d) rest) (sym m) ∙ sized_is n (word c d) rest k few (omega arith)
-    ∙ ap (all_admitted 1) (rows_stored n rest (omega arith) ∙ sym (ap (λ xs. rows_from xs ws) (v ∙ ap (λ ps. take n (drop 2 ps)) q) ∙ ap (rows_from (take n (first_chunks 2 (2 * n) rest))) (w ∙ ap (λ ps. drop n (drop 2 ps)) q)))
+    ∙ ap (all_admitted 1) (rows_stored n rest (omega arith)) ∙ sym (ap (λ ps. all_admitted 1 (rows_from (take n (drop 2 ps)) (drop n (drop 2 ps)))) q)
 
 -- what is granted behind two sizes
 sized_granted :
@@ -49,10 +49,10 @@ sized_granted m n rest rs h =
 decoded_granted :
     (bs : List ℕ) (rs : List Reading) → decoded bs ≡ Ok rs
     → (rs ≡ stored_rows (length rs) (drop 4 bs)) × (length bs ≡ 4 + 4 * length rs) × (Bytes bs → encoded rs ≡ bs)
-decoded_granted [] rs h = absurd (let z : ◌≡◌ {A = ℕ} 0 1 = cc in omega arith)
-decoded_granted (a ∷ []) rs h = absurd (let z : ◌≡◌ {A = ℕ} 0 1 = cc in omega arith)
-decoded_granted (a ∷ b ∷ []) rs h = absurd (let z : ◌≡◌ {A = ℕ} 0 1 = cc in omega arith)
-decoded_granted (a ∷ b ∷ c ∷ []) rs h = absurd (let z : ◌≡◌ {A = ℕ} 0 1 = cc in omega arith)
+decoded_granted [] rs h = absurd cc
+decoded_granted (a ∷ []) rs h = absurd cc
+decoded_granted (a ∷ b ∷ []) rs h = absurd cc
+decoded_granted (a ∷ b ∷ c ∷ []) rs h = absurd cc
 decoded_granted (a ∷ b ∷ c ∷ d ∷ rest) rs h =
     let n = word a b in
     let granted = sized_granted n (word c d) rest rs h in

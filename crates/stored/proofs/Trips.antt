@@ -1,5 +1,5 @@
 -- What is written reads back as the same readings, and rows that read are written as the same bytes.
-use Rattle.std.proofs.Common.{◌≡◌, ℕ, zero, suc, ◌+◌, ◌*◌, ◌<◌, ◌≤◌, true, eqb, leb, List, [], ◌∷◌, ◌++◌, map, length, take, drop, ℤ, pos, negsuc, Ok, sym, refl, ap, ◌∙◌, arith}
+use Rattle.std.proofs.Common.{◌≡◌, ℕ, ◌+◌, ◌*◌, ◌<◌, ◌≤◌, true, eqb, leb, List, [], ◌∷◌, ◌++◌, map, length, take, drop, ℤ, pos, negsuc, Ok, sym, refl, ap, ◌∙◌, arith}
 use lib.Signed.{le_z}
 use Rattle.std.specs.List.{flat_map, zip}
 use Rattle.std.proofs.lemmas.Bool.{and_parts, cond-true, eq-eqb, le-leb, leb-true}
@@ -11,9 +11,9 @@ use Rattle.reading.specs.Scale.{limit, is_level, is_weight, OnScale, Scaled}
 use Rattle.stored.specs.declared.columns.Column.{Column}
 use Rattle.stored.specs.declared.columns.Column.TheVariants.{Values, Weights}
 use Rattle.stored.specs.Forms.{paired, stored_rows, all_admitted, sized, decoded, cell_of, column_bytes, encoded}
-use Rattle.stored.specs.Words.{word, split, words, from_complement, to_complement}
+use Rattle.stored.specs.Words.{split, words, from_complement, to_complement}
 use Rattle.stored.proofs.Admits.{all_admits}
-use Rattle.stored.proofs.Pairs.{Bytes, Numbers, from_to_complement_neg, from_to_complement_pos, length_split, length_words, split_word, split_words, to_from_complement, word_split, words_below, words_split}
+use Rattle.stored.proofs.Pairs.{Bytes, Numbers, from_to_complement_neg, from_to_complement_pos, length_split, length_words, split_words, to_from_complement, word_split, words_below, words_split}
 
 value_cell : (v : ℤ) → is_level v ≡ true → (to_complement v < 65536) × (from_complement (to_complement v) ≡ v)
 value_cell (pos n) h =

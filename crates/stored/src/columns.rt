@@ -16,6 +16,7 @@ impl Column {
         requires { on_scale row ≡ true }
         ensures { result ≡ cell_of self row }
     {
+        // On the scale, a value fits in an i16 and a weight in a u16.
         match self {
             Column::Values => (row.value as i16).cast_unsigned(),
             Column::Weights => row.weight as u16,

@@ -14,7 +14,7 @@ pub fn check(bytes: &[u8]) -> Result<usize, Refusal>
     ensures rows { IfOk result (λ n. (decoded bytes.now ≡ Ok (stored_rows n (drop 4 bytes.now))) × (length bytes.now ≡ 4 + 4 * n)) }
     ensures exact { (rs : List Reading) → decoded bytes.now ≡ Ok rs → encoded rs ≡ bytes.now }
 {
-    Table::of(bytes).map(Table::count)
+    Table::of(bytes).map(Table::len)
 }
 
 // Writes the readings that stored bytes hold to the front of a list, and answers how many.
@@ -24,7 +24,7 @@ pub fn read(bytes: &[u8], into: &mut [Reading]) -> Result<usize, Refusal>
     ensures exact { IfOk result (λ n. encoded (take n into.new) ≡ bytes.now) }
 {
     let table = Table::of(bytes)?;
-    let count = table.count();
+    let count = table.len();
     if count > into.len() {
         return Err(Refusal::TooLittleRoom { needed: count });
     }

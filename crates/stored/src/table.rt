@@ -72,7 +72,7 @@ impl<'a> Table<'a> {
     }
 
     // How many rows there are.
-    pub(crate) fn count(self) -> usize
+    pub(crate) fn len(self) -> usize
         ensures { result ≡ length (table_rows self.entry) }
     {
         self.values.len()
@@ -84,6 +84,7 @@ impl<'a> Table<'a> {
         ensures { into.new ≡ put_from 0 (table_rows self.entry) into.old }
     {
         for (i, (value, weight)) in self.values.iter().zip(self.weights).enumerate() {
+            // A proof knows nothing of the elements after `iter_mut`, so the write is by index.
             into[i] = row_from(*value, *weight);
         }
     }

@@ -8,5 +8,6 @@ pub(crate) fn put_word(bytes: &mut [u8], i: usize, number: u16)
     requires { 2 * i + 2 ≤ length bytes.old }
     ensures { bytes.new ≡ put_from (2 * i) (split number) bytes.old }
 {
+    // `as_chunks_mut` promises nothing of what the bytes end as.
     bytes[2 * i..2 * i + 2].copy_from_slice(&number.to_le_bytes());
 }

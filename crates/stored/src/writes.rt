@@ -13,8 +13,7 @@ fn put_column(list: Readings<'_>, column: Column, into: &mut [u8], at: usize)
     requires { 2 * (at + length (rows_of list)) ≤ length into.old }
     ensures { into.new ≡ put_from (2 * at) (column_bytes column (rows_of list.entry)) into.old }
 {
-    let rows = list.rows();
-    for (i, row) in rows.iter().enumerate() {
+    for (i, row) in list.rows().iter().enumerate() {
         put_word(into, at + i, column.cell(*row));
     }
 }

@@ -12,14 +12,14 @@ loop-i-init c = put_none (2 * c.args.at) c.args.into.now
 
 pub loop-i-preserved : goal.loop-i-preserved
 loop-i-preserved c =
-    let rows = c.rows-rows.result.now in
-    let room : 2 * (c.args.at + length rows) ≤ length c.args.into.now = omega (arith, ap length c.rows-rows.ensures) in
+    let rows = c.rows-row-items.result.now in
+    let room : 2 * (c.args.at + length rows) ≤ length c.args.into.now = omega (arith, ap length c.rows-row-items.ensures) in
     c.put_word.ensures
     ∙ ap (λ k. put_from (2 * (c.args.at + c.loop-i.i)) (split k) c.loop-i.into) c.cell.ensures
     ∙ column_laid c.args.column rows c.args.into.now c.loop-i.into c.args.at c.loop-i.i _ c.loop-i-test.true room c.loop-i.invariant
 
 pub returns : goal.returns
 returns c =
-    let same = c.rows-rows.ensures in
+    let same = c.rows-row-items.ensures in
     c.loop-i.invariant
     ∙ ap (λ rs. put_from (2 * c.args.at) (column_bytes c.args.column rs) c.args.into.now) (take_all _ _ (omega arith) ∙ same)

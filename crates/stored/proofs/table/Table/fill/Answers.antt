@@ -1,7 +1,7 @@
-use Rattle.std.proofs.Common.{◌≡◌, ◌+◌, ◌≤◌, length, set, refl, sym, ap, ◌∙◌, zero-add, arith}
+use Rattle.std.proofs.Common.{◌≡◌, ◌+◌, length, set, sym, ap, ◌∙◌, arith}
 use lib.Seq.{paste}
 use Rattle.std.proofs.lemmas.List.{length_push}
-use Rattle.reading.proofs.Puts.{copied_length, copied_more, put_all}
+use Rattle.reading.proofs.Puts.{copied_more, put_all}
 use Rattle.stored.specs.Tables.{table_rows}
 use Rattle.stored.proofs.Rows.{row_end, row_turn}
 use Rattle.stored.proofs.table.Table.fill.Goals as goal
