@@ -1,5 +1,5 @@
 -- Numbers as two bytes: there and back, one and many.
-use Rattle.std.proofs.Common.{◌≡◌, ℕ, zero, suc, ◌+◌, ◌-◌, ◌*◌, ◌/◌, ◌%◌, ◌<◌, ◌≤◌, ltb, List, [], ◌∷◌, ◌++◌, map, length, take, drop, pos, negsuc, refl, ap, ◌∙◌, mod-eq_of_lt, zero-add, arith}
+use Rattle.std.proofs.Common.{◌≡◌, ℕ, zero, suc, ◌+◌, ◌-◌, ◌*◌, ◌/◌, ◌%◌, ◌<◌, ltb, List, [], ◌∷◌, ◌++◌, map, length, pos, negsuc, refl, ap, ◌∙◌, mod-eq_of_lt, zero-add, arith}
 use native.Mathlib.Nat.{add-mul-div_right, add-mul-mod_self_right, div-eq_of_lt}
 use Rattle.std.specs.List.{All, flat_map}
 use Rattle.std.specs.Simd.{first_chunks}
@@ -43,26 +43,13 @@ length_words (a ∷ []) n e = absurd (omega arith)
 length_words (a ∷ b ∷ bs) zero e = absurd (omega arith)
 length_words (a ∷ b ∷ bs) (suc n) e = ap suc (length_words bs n (omega arith))
 
--- the first n of m pairs of bytes as numbers, and those behind them
-pub words_front : (n m : ℕ) (bs : List ℕ) → n ≤ m → length bs ≡ 2 * m → map number (take n (first_chunks 2 m bs)) ≡ words (take (2 * n) bs)
-words_front zero m bs h e = refl
-words_front (suc n) zero bs h e = absurd (omega arith)
-words_front (suc n) (suc m) [] h e = absurd (omega arith)
-words_front (suc n) (suc m) (a ∷ []) h e = absurd (omega arith)
-words_front (suc n) (suc m) (a ∷ b ∷ bs) h e =
-    let two : suc (suc (2 * n)) ≡ 2 * suc n = omega arith in
-    ap (λ xs. word a b ∷ xs) (words_front n m bs (omega arith) (omega arith)) ∙ ap (λ k. words (take k (a ∷ b ∷ bs))) two
-
-pub words_back : (n m : ℕ) (bs : List ℕ) → n ≤ m → length bs ≡ 2 * m → map number (drop n (first_chunks 2 m bs)) ≡ words (drop (2 * n) bs)
-words_back zero zero [] h e = refl
-words_back zero zero (a ∷ bs) h e = absurd (omega arith)
-words_back (suc n) zero bs h e = absurd (omega arith)
-words_back n (suc m) [] h e = absurd (omega arith)
-words_back n (suc m) (a ∷ []) h e = absurd (omega arith)
-words_back zero (suc m) (a ∷ b ∷ bs) h e = ap (λ xs. word a b ∷ xs) (words_back zero m bs (omega arith) (omega arith))
-words_back (suc n) (suc m) (a ∷ b ∷ bs) h e =
-    let two : suc (suc (2 * n)) ≡ 2 * suc n = omega arith in
-    words_back n m bs (omega arith) (omega arith) ∙ ap (λ k. words (drop k (a ∷ b ∷ bs))) two
+-- the library's chunks of two, read as numbers
+pub words_chunks : (bs : List ℕ) (n : ℕ) → length bs ≡ 2 * n → map number (first_chunks 2 n bs) ≡ words bs
+words_chunks [] zero e = refl
+words_chunks [] (suc n) e = absurd (omega arith)
+words_chunks (a ∷ []) n e = absurd (omega arith)
+words_chunks (a ∷ b ∷ bs) zero e = absurd (omega arith)
+words_chunks (a ∷ b ∷ bs) (suc n) e = ap (λ ns. word a b ∷ ns) (words_chunks bs n (omega arith))
 
 -- bytes in pairs, put together and taken apart
 pub split_words : (bs : List ℕ) (n : ℕ) → length bs ≡ 2 * n → Bytes bs → flat_map split (words bs) ≡ bs

@@ -10,7 +10,7 @@ use Rattle.std.proofs.iter.Yields.{fronts}
 use Rattle.std.proofs.lemmas.Iterator.{YieldsList, YieldsList-from_slice, YieldsList-from_zip, zips}
 use Rattle.std.proofs.lemmas.Iterator.Consumers.{YieldsList-end, YieldsList-from_enumerate, YieldsList-turn}
 use Rattle.std.specs.Simd.{first_chunks}
-use Rattle.std.proofs.lemmas.List.{get_or-map, length-map}
+use Rattle.std.proofs.lemmas.List.{drop-map, get_or-map, length-map, take-map}
 use Rattle.std.proofs.lemmas.List.FromFn.{get_or-enumerate_from, length-enumerate_from}
 use Rattle.std.proofs.lemmas.Slice.Zip.{length-zip}
 use Rattle.reading.specs.declared.scale.Reading.{Reading}
@@ -18,8 +18,8 @@ use Rattle.stored.specs.Forms.{paired, stored_rows}
 use Rattle.stored.specs.declared.table.Table.{Table}
 use Rattle.stored.specs.Rows.{row_from, rows_from}
 use Rattle.stored.specs.Tables.{table_rows}
-use Rattle.stored.specs.Words.{number, words, from_complement}
-use Rattle.stored.proofs.Pairs.{words_back, words_front}
+use Rattle.stored.specs.Words.{number, from_complement}
+use Rattle.stored.proofs.Pairs.{words_chunks}
 
 pub length_rows : (vs ws : List (List ℕ)) → length ws ≡ length vs → length (rows_from vs ws) ≡ length vs
 length_rows vs ws alike = length-map (zip vs ws) _ ∙ length-zip vs ws ∙ omega arith
@@ -74,8 +74,7 @@ pub rows_stored :
     → stored_rows n rest ≡ rows_from (take n (first_chunks 2 (2 * n) rest)) (drop n (first_chunks 2 (2 * n) rest))
 rows_stored n rest long =
     let cells = first_chunks 2 (2 * n) rest in
-    let front = words_front n (2 * n) rest (omega arith) (omega arith) in
-    let back = words_back n (2 * n) rest (omega arith) (omega arith) in
-    ap (λ ns. paired (map from_complement ns) (words (drop (2 * n) rest))) (sym front)
-    ∙ ap (λ ns. paired (map from_complement (map number (take n cells))) ns) (sym back)
+    ap (λ ns. paired (map from_complement (take n ns)) (drop n ns)) (sym (words_chunks rest (2 * n) (omega arith)))
+    ∙ ap (λ ns. paired (map from_complement ns) (drop n (map number cells))) (take-map number n cells)
+    ∙ ap (λ ns. paired (map from_complement (map number (take n cells))) ns) (drop-map number n cells)
     ∙ rows_paired (take n cells) (drop n cells)

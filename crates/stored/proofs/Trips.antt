@@ -4,7 +4,9 @@ use lib.Signed.{le_z}
 use Rattle.std.specs.List.{flat_map, zip}
 use Rattle.std.proofs.lemmas.Bool.{and_parts, cond-true, eq-eqb, le-leb, leb-true}
 use Rattle.std.proofs.lemmas.List.{drop_at, length-append, length-drop, length-map, length-take, take-append-drop, take_at}
-use Rattle.std.proofs.lemmas.List.Elements.{All-drop, All-head, All-map, All-tail, All-take, All-weaker}
+use Rattle.std.proofs.lemmas.Grind.{flat_map-append}
+use Rattle.std.proofs.lemmas.List.Folds.{flat_map-map}
+use Rattle.std.proofs.lemmas.List.Elements.{All-append, All-head, All-map, All-tail, All-take, All-weaker}
 use Rattle.std.proofs.lemmas.Slice.Zip.{length-zip}
 use Rattle.reading.specs.declared.scale.Reading.{Reading}
 use Rattle.reading.specs.Scale.{limit, is_level, is_weight, OnScale, Scaled}
@@ -37,16 +39,18 @@ cell_below Weights r h =
 cells_below : (column : Column) (rs : List Reading) → Scaled rs → Numbers (map (cell_of column) rs)
 cells_below column rs all = All-map (λ x. x < 65536) (cell_of column) rs (All-weaker OnScale (λ r. cell_of column r < 65536) (cell_below column) rs all)
 
-column_split : (column : Column) (rs : List Reading) → column_bytes column rs ≡ flat_map split (map (cell_of column) rs)
-column_split column [] = refl
-column_split column (r ∷ rs) = ap (λ xs. split (cell_of column r) ++ xs) (column_split column rs)
-
 pub length_column : (column : Column) (rs : List Reading) → length (column_bytes column rs) ≡ 2 * length rs
 length_column column rs =
-    ap length (column_split column rs) ∙ length_split (map (cell_of column) rs) ∙ ap (λ n. 2 * n) (length-map rs (cell_of column))
+    ap length (sym (flat_map-map split (cell_of column) rs)) ∙ length_split (map (cell_of column) rs) ∙ ap (λ n. 2 * n) (length-map rs (cell_of column))
 
-words_column : (column : Column) (rs : List Reading) → Scaled rs → words (column_bytes column rs) ≡ map (cell_of column) rs
-words_column column rs all = ap words (column_split column rs) ∙ words_split (map (cell_of column) rs) (cells_below column rs all)
+-- both columns as bytes, and as the numbers that they store
+columns_split : (rs : List Reading) → column_bytes Values rs ++ column_bytes Weights rs ≡ flat_map split (map (cell_of Values) rs ++ map (cell_of Weights) rs)
+columns_split rs =
+    let vs = map (cell_of Values) rs in
+    let ws = map (cell_of Weights) rs in
+    ap (λ bs. bs ++ column_bytes Weights rs) (sym (flat_map-map split (cell_of Values) rs))
+    ∙ ap (λ bs. flat_map split vs ++ bs) (sym (flat_map-map split (cell_of Weights) rs))
+    ∙ sym (flat_map-append split vs ws)
 
 pairs_back : (rs : List Reading) → Scaled rs → paired (map from_complement (map (cell_of Values) rs)) (map (cell_of Weights) rs) ≡ rs
 pairs_back [] all = refl
@@ -56,10 +60,13 @@ pairs_back (r ∷ rs) all =
 
 rows_back : (rs : List Reading) → Scaled rs → stored_rows (length rs) (column_bytes Values rs ++ column_bytes Weights rs) ≡ rs
 rows_back rs all =
-    let front = take_at (column_bytes Values rs) (column_bytes Weights rs) (2 * length rs) (length_column Values rs) in
-    let back = drop_at (column_bytes Values rs) (column_bytes Weights rs) (2 * length rs) (length_column Values rs) in
-    ap (λ ns. paired (map from_complement ns) (words (drop (2 * length rs) (column_bytes Values rs ++ column_bytes Weights rs)))) (ap words front ∙ words_column Values rs all)
-    ∙ ap (λ ns. paired (map from_complement (map (cell_of Values) rs)) ns) (ap words back ∙ words_column Weights rs all)
+    let vs = map (cell_of Values) rs in
+    let ws = map (cell_of Weights) rs in
+    let both = All-append (λ n. n < 65536) vs ws (cells_below Values rs all) (cells_below Weights rs all) in
+    ap (stored_rows (length rs)) (columns_split rs)
+    ∙ ap (λ ns. paired (map from_complement (take (length rs) ns)) (drop (length rs) ns)) (words_split (vs ++ ws) both)
+    ∙ ap (λ ns. paired (map from_complement ns) (drop (length rs) (vs ++ ws))) (take_at vs ws (length rs) (length-map rs (cell_of Values)))
+    ∙ ap (λ ns. paired (map from_complement vs) ns) (drop_at vs ws (length rs) (length-map rs (cell_of Values)))
     ∙ pairs_back rs all
 
 -- two sizes that agree, within the limit, before as many bytes as they say
@@ -79,38 +86,39 @@ reads_back rs all few =
     let long : length rest ≡ 4 * length rs = omega (arith, length_encoded rs) in
     ap (λ k. sized k k rest) n ∙ sized_is (length rs) (length rs) rest refl few long ∙ ap (all_admitted 1) (rows_back rs all) ∙ all_admits 1 rs all
 
-values_of_paired : (ns ws : List ℕ) → length ns ≡ length ws → Numbers ns → column_bytes Values (paired (map from_complement ns) ws) ≡ flat_map split ns
+values_of_paired : (ns ws : List ℕ) → length ns ≡ length ws → Numbers ns → map (cell_of Values) (paired (map from_complement ns) ws) ≡ ns
 values_of_paired [] ws e all = refl
 values_of_paired (n ∷ ns) [] e all = absurd (omega arith)
 values_of_paired (n ∷ ns) (w ∷ ws) e all =
-    ap (λ k. split k ++ column_bytes Values (paired (map from_complement ns) ws)) (to_from_complement n (all 0 0 (omega arith)))
-    ∙ ap (λ xs. split n ++ xs) (values_of_paired ns ws (omega arith) (All-tail (λ x. x < 65536) n ns all))
+    ap (λ k. k ∷ map (cell_of Values) (paired (map from_complement ns) ws)) (to_from_complement n (all 0 0 (omega arith)))
+    ∙ ap (λ xs. n ∷ xs) (values_of_paired ns ws (omega arith) (All-tail (λ x. x < 65536) n ns all))
 
-weights_of_paired : (vs : List ℤ) (ws : List ℕ) → length vs ≡ length ws → column_bytes Weights (paired vs ws) ≡ flat_map split ws
+weights_of_paired : (vs : List ℤ) (ws : List ℕ) → length vs ≡ length ws → map (cell_of Weights) (paired vs ws) ≡ ws
 weights_of_paired [] [] e = refl
 weights_of_paired [] (w ∷ ws) e = absurd (omega arith)
 weights_of_paired (v ∷ vs) [] e = absurd (omega arith)
-weights_of_paired (v ∷ vs) (w ∷ ws) e = ap (λ xs. split w ++ xs) (weights_of_paired vs ws (omega arith))
+weights_of_paired (v ∷ vs) (w ∷ ws) e = ap (λ xs. w ∷ xs) (weights_of_paired vs ws (omega arith))
 
 -- there are as many rows as were said, and their columns are the bytes that they came from
 pub rows_exact :
     (n : ℕ) (rest : List ℕ) → length rest ≡ 4 * n
-    → (length (stored_rows n rest) ≡ n)
-    × (Bytes rest → column_bytes Values (stored_rows n rest) ++ column_bytes Weights (stored_rows n rest) ≡ rest)
+    → (length (stored_rows n rest) ≡ n) × (Bytes rest → column_bytes Values (stored_rows n rest) ++ column_bytes Weights (stored_rows n rest) ≡ rest)
 rows_exact n rest long =
-    let front = take (2 * n) rest in
-    let back = drop (2 * n) rest in
-    let fl : length front ≡ 2 * n = simp length-take (omega arith) in
-    let bl : length back ≡ 2 * n = simp length-drop (omega arith) in
-    let vl = length_words front n fl in
-    let wl = length_words back n bl in
-    let zl = length-zip (map from_complement (words front)) (words back) in
-    let ml = length-map (words front) from_complement in (
-      length-map (zip (map from_complement (words front)) (words back)) _ ∙ omega arith,
+    let vs = take n (words rest) in
+    let ws = drop n (words rest) in
+    let k = length_words rest (2 * n) (omega arith) in
+    let vl : length vs ≡ n = simp length-take (omega arith) in
+    let wl : length ws ≡ n = simp length-drop (omega arith) in
+    let ml : length (map from_complement vs) ≡ n = length-map vs from_complement ∙ vl in
+    let zl = length-zip (map from_complement vs) ws in (
+      length-map (zip (map from_complement vs) ws) _ ∙ omega arith,
       λ all.
-          let vs : column_bytes Values (stored_rows n rest) ≡ front =
-          values_of_paired (words front) (words back) (vl ∙ sym wl) (words_below front (All-take (λ x. x < 256) (2 * n) rest all)) ∙ split_words front n fl (All-take (λ x. x < 256) (2 * n) rest all) in
-          let ws : column_bytes Weights (stored_rows n rest) ≡ back =
-          weights_of_paired (map from_complement (words front)) (words back) (ml ∙ vl ∙ sym wl) ∙ split_words back n bl (All-drop (λ x. x < 256) (2 * n) rest all) in
-          ap (λ xs. xs ++ column_bytes Weights (stored_rows n rest)) vs ∙ ap (λ xs. front ++ xs) ws ∙ take-append-drop (2 * n) rest,
+          let low = words_below rest all in
+          let v = values_of_paired vs ws (vl ∙ sym wl) (All-take (λ x. x < 65536) n (words rest) low) in
+          let w = weights_of_paired (map from_complement vs) ws (ml ∙ sym wl) in
+          columns_split (stored_rows n rest)
+          ∙ ap (λ ns. flat_map split (ns ++ map (cell_of Weights) (stored_rows n rest))) v
+          ∙ ap (λ ns. flat_map split (vs ++ ns)) w
+          ∙ ap (flat_map split) (take-append-drop n (words rest))
+          ∙ split_words rest (2 * n) (omega arith) all,
     )
