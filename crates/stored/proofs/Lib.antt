@@ -1,3 +1,4 @@
+pub mod Stored
 pub mod Pairs
 pub mod Rows
 pub mod Admits

@@ -20,6 +20,7 @@ use Rattle.stored.specs.Rows.{row_from, rows_from}
 use Rattle.stored.specs.Tables.{table_rows}
 use Rattle.stored.specs.Words.{number, from_complement}
 use Rattle.stored.proofs.Pairs.{words_chunks}
+use Rattle.stored.proofs.Stored.{stored_words}
 
 pub length_rows : (vs ws : List (List ℕ)) → length ws ≡ length vs → length (rows_from vs ws) ≡ length vs
 length_rows vs ws alike = length-map (zip vs ws) _ ∙ length-zip vs ws ∙ omega arith
@@ -74,7 +75,8 @@ pub rows_stored :
     → stored_rows n rest ≡ rows_from (take n (first_chunks 2 (2 * n) rest)) (drop n (first_chunks 2 (2 * n) rest))
 rows_stored n rest long =
     let cells = first_chunks 2 (2 * n) rest in
-    ap (λ ns. paired (map from_complement (take n ns)) (drop n ns)) (sym (words_chunks rest (2 * n) (omega arith)))
+    stored_words n rest
+    ∙ ap (λ ns. paired (map from_complement (take n ns)) (drop n ns)) (sym (words_chunks rest (2 * n) (omega arith)))
     ∙ ap (λ ns. paired (map from_complement ns) (drop n (map number cells))) (take-map number n cells)
     ∙ ap (λ ns. paired (map from_complement (map number (take n cells))) ns) (drop-map number n cells)
     ∙ rows_paired (take n cells) (drop n cells)

@@ -15,6 +15,7 @@ use Rattle.stored.specs.declared.columns.Column.TheVariants.{Values, Weights}
 use Rattle.stored.specs.Forms.{paired, stored_rows, all_admitted, sized, decoded, cell_of, column_bytes, encoded}
 use Rattle.stored.specs.Words.{split, words, from_complement, to_complement}
 use Rattle.stored.proofs.Admits.{all_admits}
+use Rattle.stored.proofs.Stored.{stored_words}
 use Rattle.stored.proofs.Pairs.{Bytes, Numbers, from_to_complement_neg, from_to_complement_pos, length_split, length_words, split_words, to_from_complement, word_split, words_below, words_split}
 
 value_cell : (v : ℤ) → is_level v ≡ true → (to_complement v < 65536) × (from_complement (to_complement v) ≡ v)
@@ -64,6 +65,7 @@ rows_back rs all =
     let ws = map (cell_of Weights) rs in
     let both = All-append (λ n. n < 65536) vs ws (cells_below Values rs all) (cells_below Weights rs all) in
     ap (stored_rows (length rs)) (columns_split rs)
+    ∙ stored_words (length rs) (flat_map split (vs ++ ws))
     ∙ ap (λ ns. paired (map from_complement (take (length rs) ns)) (drop (length rs) ns)) (words_split (vs ++ ws) both)
     ∙ ap (λ ns. paired (map from_complement ns) (drop (length rs) (vs ++ ws))) (take_at vs ws (length rs) (length-map rs (cell_of Values)))
     ∙ ap (λ ns. paired (map from_complement vs) ns) (drop_at vs ws (length rs) (length-map rs (cell_of Values)))
@@ -106,18 +108,20 @@ pub rows_exact :
 rows_exact n rest long =
     let vs = take n (words rest) in
     let ws = drop n (words rest) in
+    let rows = paired (map from_complement vs) ws in
     let k = length_words rest (2 * n) (omega arith) in
     let vl : length vs ≡ n = simp length-take (omega arith) in
     let wl : length ws ≡ n = simp length-drop (omega arith) in
     let ml : length (map from_complement vs) ≡ n = length-map vs from_complement ∙ vl in
-    let zl = length-zip (map from_complement vs) ws in (
+    let zl = length-zip (map from_complement vs) ws in
+    rw (stored_words n rest) (
       length-map (zip (map from_complement vs) ws) _ ∙ omega arith,
       λ all.
           let low = words_below rest all in
           let v = values_of_paired vs ws (vl ∙ sym wl) (All-take (λ x. x < 65536) n (words rest) low) in
           let w = weights_of_paired (map from_complement vs) ws (ml ∙ sym wl) in
-          columns_split (stored_rows n rest)
-          ∙ ap (λ ns. flat_map split (ns ++ map (cell_of Weights) (stored_rows n rest))) v
+          columns_split rows
+          ∙ ap (λ ns. flat_map split (ns ++ map (cell_of Weights) rows)) v
           ∙ ap (λ ns. flat_map split (vs ++ ns)) w
           ∙ ap (flat_map split) (take-append-drop n (words rest))
           ∙ split_words rest (2 * n) (omega arith) all,

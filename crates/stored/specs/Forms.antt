@@ -16,7 +16,7 @@ paired vs ws = map (λ pair. record { value = pair.0; weight = pair.1 }) (zip vs
 
 -- the n values and n weights that are stored behind the sizes, whether on the scale or not
 abbrev pub stored_rows : ℕ → List ℕ → List Reading
-stored_rows n rest = paired (map from_complement (take n (words rest))) (drop n (words rest))
+stored_rows n rest = paired (map from_complement (words (take (2 * n) rest))) (words (drop (2 * n) rest))
 
 -- the readings, if all are on the scale; else what is wrong with the first that is not, the first reading having place p
 abbrev pub all_admitted : ℕ → List Reading → Result (List Reading) Refusal
