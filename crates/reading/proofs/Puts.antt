@@ -1,7 +1,7 @@
 -- Entries put into a list from a place on: where there is room, one at a time, and where there is none.
 use Rattle.std.proofs.Common.{◌≡◌, ℕ, ◌+◌, ◌<◌, ◌≤◌, leb, List, [], ◌∷◌, ◌++◌, length, get_or, take, drop, set, Ok, Err, Result, sym, refl, ap, ◌∙◌, add-zero, add-one, arith}
 use lib.Seq.{paste}
-use Rattle.std.proofs.lemmas.List.Edits.{length-paste, paste_all, paste_more, paste-paste}
+use Rattle.std.proofs.lemmas.List.Edits.{paste_all, paste_more, paste-paste}
 use Rattle.std.proofs.lemmas.List.{set_split, length-append, length-take, length-drop, take-append-drop, take_at}
 use Rattle.std.proofs.lemmas.Bool.{cond-true, cond-false, cond_both, leb-true, le-leb, lt-leb}
 use Rattle.reading.specs.declared.refusals.Refusal.{Refusal}
@@ -29,10 +29,6 @@ pub fitted_over : (n room : ℕ) → room < n → Err (TooLittleRoom n) ≡ fitt
 fitted_over n room h = sym (cond-false (leb n room) _ _ (lt-leb _ _ h))
 
 module _ {X : Type 0} (out : List X) (n : ℕ) (xs : List X) (room : n + length xs ≤ length out) (cur : List X) (i : ℕ) (so_far : cur ≡ paste out n xs i) where
-  -- a list that is copied into stays as long as it is
-  pub copied_length : i ≤ length xs → length cur ≡ length out
-  copied_length h = ap length so_far ∙ length-paste out n xs i (omega arith) h
-
   -- one entry more copied
   pub copied_more : (x : X) → i < length xs → x ≡ get_or xs i x → set cur (n + i) x ≡ paste out n xs (i + 1)
   copied_more x h e =
@@ -58,13 +54,6 @@ put_then out n xs ys m e h =
     ∙ ap (λ k. paste (paste out n xs (length xs)) k ys (length ys)) e
     ∙ paste-paste out n xs ys (length xs) (length ys) refl refl (omega arith)
     ∙ put_all out n (xs ++ ys) (length xs + length ys) (omega arith) (sym q)
-
--- two entries written in their places
-pub put_two : {X : Type 0} (out : List X) (i : ℕ) (x y : X) → i + 2 ≤ length out → set (set out i x) (i + 1) y ≡ put_from i (x ∷ y ∷ []) out
-put_two out i x y h =
-    ap (λ zs. set zs (i + 1) y) (put_one out i x (omega arith))
-    ∙ put_one (put_from i (x ∷ []) out) (i + 1) y (omega (arith, length_put i (x ∷ []) out))
-    ∙ put_then out i (x ∷ []) (y ∷ []) (i + 1) refl (omega arith)
 
 module _ {X : Type 0} (given : Result (List X) Refusal) (xs : List X) (granted : given ≡ Ok xs) (n : ℕ) (counted : n ≡ length xs) (out : List X) where
   counted_room : delivered given out ≡ fitted n (length out)

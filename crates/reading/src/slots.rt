@@ -14,12 +14,12 @@ pub struct Bounded<'a, T> {
 }
 
 impl<'a, T> Bounded<'a, T> {
-    ghost use Rattle.reading.specs.Bounds.{beneath, count_of, entries_of};
+    ghost use Rattle.reading.specs.Bounds.{IsOver, StaysOver, beneath, count_of, entries_of};
     ghost use Rattle.reading.specs.Lists.{count_after, grown, put_from};
 
     // An empty list over the whole slice.
     pub fn new(slots: &'a mut [T]) -> Bounded<'a, T>
-        ensures lender { result.slots.ghost_name ≡ slots.entry.ghost_name }
+        ensures lender { IsOver result slots.entry }
         ensures slots { beneath result ≡ slots.old }
         ensures count { count_of result ≡ 0 }
     {
@@ -41,7 +41,7 @@ impl<'a, T> Bounded<'a, T> {
 
     // The whole slice: the entries, and behind them what the caller left there.
     pub fn into_slots(self) -> &'a mut [T]
-        ensures lender { result.ghost_name ≡ self.entry.slots.ghost_name }
+        ensures lender { IsOver self.entry result }
         ensures slots { result.now ≡ beneath self.entry }
     {
         let Bounded { slots, count: _ } = self;
@@ -55,7 +55,7 @@ impl<'a, T> Bounded<'a, T> {
         ensures value { result ≡ grown (count_of self.old) 1 (length (beneath self.old)) }
         ensures slots { beneath self.new ≡ put_from (count_of self.old) (entry ∷ []) (beneath self.old) }
         ensures count { count_of self.new ≡ count_after result (count_of self.old) }
-        ensures lender { self.new.slots.ghost_name ≡ self.old.slots.ghost_name }
+        ensures lender { StaysOver self.old self.new }
     {
         let at = self.count;
         if at >= self.slots.len() {
@@ -75,7 +75,7 @@ impl<'a, T> Bounded<'a, T> {
         ensures value { result ≡ grown (count_of self.old) (length entries.now) (length (beneath self.old)) }
         ensures slots { beneath self.new ≡ put_from (count_of self.old) entries.now (beneath self.old) }
         ensures count { count_of self.new ≡ count_after result (count_of self.old) }
-        ensures lender { self.new.slots.ghost_name ≡ self.old.slots.ghost_name }
+        ensures lender { StaysOver self.old self.new }
     {
         let at = self.count;
         if entries.len() > self.slots.len() - at {
