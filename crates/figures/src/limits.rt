@@ -74,12 +74,14 @@ fn combinations(rt: &impl Print, measure: impl Measure) -> io::Result<()> {
     )
 }
 
+// The letter is only printed.
 fn limits_of(rt: &impl Print, letter: char, measure: impl Measure) -> io::Result<()> {
     println!(rt; "under {letter}")?;
     departures(rt, measure)?;
     combinations(rt, measure)
 }
 
+// Three calls, since no closure is generic over the measure.
 pub(crate) fn each_measure(rt: &impl Print) -> io::Result<()> {
     limits_of(rt, 'A', Absolute)?;
     limits_of(rt, 'S', Squared)?;

@@ -15,7 +15,7 @@ fn row(value: i32, weight: u32) -> Reading {
     Reading { value, weight }
 }
 
-// Prints the level that the rows prefer under a measure, and what they depart by there.
+// Prints the level that the rows prefer under a measure, and what they depart by there. The letter is only printed.
 fn show(rt: &impl Print, letter: char, measure: impl Measure, rows: &[Reading]) -> io::Result<()> {
     let list = Readings::of(rows);
     let Some(level) = measure.preferred(list) else {
@@ -27,6 +27,7 @@ fn show(rt: &impl Print, letter: char, measure: impl Measure, rows: &[Reading]) 
     }
 }
 
+// Three calls, since no closure is generic over the measure.
 fn each_measure(rt: &impl Print, name: &str, rows: &[Reading]) -> io::Result<()> {
     println!(rt; "{name}")?;
     show(rt, 'A', Absolute, rows)?;

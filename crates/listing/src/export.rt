@@ -8,6 +8,7 @@ use crate::prints::listing;
 use reading::Refusal;
 
 // A count, or a refusal. `number` is 0 where the call was granted; else `written` is 0.
+// A struct of numbers, since C has no `Result`.
 #[repr(C)]
 #[derive(Clone, Copy, PartialEq, Eq, Hash, Debug)]
 pub struct Answer {

@@ -26,7 +26,8 @@ fn counted(row: Reading, level: i32) -> u64
     }
 }
 
-// The weight of all values up to a level.
+// The weight of all values up to a level. A chain took 1.8 times as long. It is no departure of a measure,
+// so it has a loop of its own.
 fn weight_up_to(sample: Sample<'_>, level: i32) -> u64
     ensures { result ≡ weight_up_to (sampled sample.entry) level }
 {
@@ -37,7 +38,8 @@ fn weight_up_to(sample: Sample<'_>, level: i32) -> u64
     sum
 }
 
-// The smallest level with at least half of the weight up to it, by bisecting the levels.
+// The smallest level with at least half of the weight up to it, by bisecting the levels. The library bisects
+// slices alone.
 fn median(sample: Sample<'_>) -> i32
     ensures { result ≡ absolute_prefers (sampled sample.entry) }
 {

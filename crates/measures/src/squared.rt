@@ -33,6 +33,7 @@ fn weighted_place(row: Reading) -> u64
     u64::from(row.weight) * distance_from(row, LOWEST)
 }
 
+// One pass for both, so a loop.
 fn weigh(sample: Sample<'_>) -> Weighed
     ensures whole { result.whole ≡ whole_weight (sampled sample.entry) }
     ensures sum { result.sum ≡ weighted_places (sampled sample.entry) }

@@ -39,6 +39,7 @@ impl From<Site> for u32 {
 }
 
 impl Refusal {
+    // The number under which it is known outside. Cases with data have no `as`, so it is a match.
     pub fn number(self) -> u8
         ensures { result ≡ number_of self }
     {

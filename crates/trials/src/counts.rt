@@ -4,7 +4,7 @@ use reading::LIMIT;
 use std::alloc::{AllocError, Global};
 use std::io;
 
-// A value and a weight in their stored widths.
+// A value and a weight in their stored widths. The tests of `stored` make such bytes too, but want sizes that lie.
 #[derive(Clone, Copy)]
 struct Row {
     value: i16,

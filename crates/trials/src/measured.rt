@@ -15,7 +15,8 @@ fn close(random: &mut Random) -> Reading {
     }
 }
 
-// Prints the preferred level and the departures at it, at the lowest level and at another one.
+// Prints the preferred level and the departures at it, at the lowest level and at another one. The letter is only
+// printed. The figures print other departures, and no crate below both prints.
 fn show(
     rt: &impl Print,
     letter: char,
@@ -37,6 +38,7 @@ fn show(
     println!(rt; "{letter} {level} {here} {low} {there}")
 }
 
+// Three calls, since no closure is generic over the measure.
 fn each_measure(rt: &impl Print, rows: &[Reading], other: i32) -> io::Result<()> {
     show(rt, 'A', Absolute, rows, other)?;
     show(rt, 'S', Squared, rows, other)?;
