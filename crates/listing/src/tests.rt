@@ -8,7 +8,7 @@ use reading::Refusal;
 const SAMPLE: [u8; 9] = [b'S', 1, 0, 1, 0, 0xff, 0xff, 0xe8, 0x03];
 
 // The answer of a refusal.
-fn declined(number: u32, place: u64, site: u32) -> Answer {
+fn told_to_c(number: u32, place: u64, site: u32) -> Answer {
     Answer {
         written: 0,
         place,
@@ -69,7 +69,7 @@ fn an_answer_in_numbers_tells_the_same(rt: HostRuntime) {
             site: 0,
         }
     );
-    assert_eq!(rt; fit_listing(b"?", &mut output), declined(8, 63, 4));
-    assert_eq!(rt; fit_listing(b"A", &mut output), declined(9, 0, 5));
-    assert_eq!(rt; fit_listing(&SAMPLE, &mut []), declined(7, 21, 3));
+    assert_eq!(rt; fit_listing(b"?", &mut output), told_to_c(8, 63, 4));
+    assert_eq!(rt; fit_listing(b"A", &mut output), told_to_c(9, 0, 5));
+    assert_eq!(rt; fit_listing(&SAMPLE, &mut []), told_to_c(7, 21, 3));
 }

@@ -69,7 +69,7 @@ impl Refusal {
             Refusal::PlaceOutsidePrefix { place } => place,
             Refusal::NothingHeld => 0,
             Refusal::TooLittleRoom { needed } => needed,
-            Refusal::UnknownLetter { byte } => byte as usize,
+            Refusal::UnknownLetter { byte } => usize::from(byte),
             Refusal::WrongLength { length } => length,
             Refusal::SizesDiffer => 0,
             Refusal::TooMany { size } => size,
