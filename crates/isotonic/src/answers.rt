@@ -8,7 +8,7 @@ use reading::{LIMIT, Readings, is_level};
 // The most that a single reading departs by, under any measure.
 pub const READING_MOST: u64 = 4_000_000_000_000;
 
-// The most that as many readings as may be held depart by.
+// The most that as many readings as may be held depart by. `usize` has no `From` into `u64`.
 pub const COMBINED_MOST: u64 = LIMIT as u64 * READING_MOST;
 
 // Whether there is a departure: the list is within the limit, and the number is a level.

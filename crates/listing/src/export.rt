@@ -18,6 +18,7 @@ pub struct Answer {
     pub site: u32,
 }
 
+// `usize` has no `From` into `u64`.
 impl From<Result<usize, Refusal>> for Answer {
     ghost from_gives = { λ outcome answer. answer ≡ answer_of outcome };
 

@@ -4,7 +4,8 @@ ghost use Rattle.measures.specs.Values.{distance};
 
 use reading::{HIGHEST, LOWEST, Reading};
 
-// The place of the highest level.
+// The place of the highest level. Here and below a cast loses nothing, and `try_from` would add a branch that
+// never comes.
 pub(crate) const LAST_PLACE: u64 = (HIGHEST - LOWEST) as u64;
 
 // The level that is so many above the lowest.

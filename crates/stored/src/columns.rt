@@ -1,6 +1,6 @@
 // The two columns of the stored form: what each stores of a reading.
-ghost use Rattle.std.specs.Prelude.{◌≡◌, true};
-ghost use Rattle.reading.specs.Scale.{on_scale};
+ghost use Rattle.std.specs.Prelude.{◌≡◌};
+ghost use Rattle.reading.specs.Scale.{OnScale};
 ghost use Rattle.stored.specs.Forms.{cell_of};
 
 use reading::Reading;
@@ -13,7 +13,7 @@ pub(crate) enum Column {
 
 impl Column {
     pub(crate) fn cell(self, row: Reading) -> u16
-        requires { on_scale row ≡ true }
+        requires { OnScale row }
         ensures { result ≡ cell_of self row }
     {
         // On the scale, a value fits in an i16 and a weight in a u16.

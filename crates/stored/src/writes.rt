@@ -32,6 +32,7 @@ pub fn write(list: Readings<'_>, into: &mut [u8]) -> Result<usize, Refusal>
     if needed > into.len() {
         return Err(Refusal::TooLittleRoom { needed });
     }
+    // The limit fits two bytes, so no `try_from`.
     put_word(into, 0, count as u16);
     put_word(into, 1, count as u16);
     put_column(list, Column::Values, into, 2);

@@ -7,7 +7,8 @@ use measures::{Absolute, Largest, Squared};
 use reading::{LIMIT, LOWEST, Reading, Readings};
 use std::{array, io};
 
-// A reading of a narrow range, so that lists have equal values and means that end in a half.
+// A reading of a narrow range, so that lists have equal values and means that end in a half. The cast is of less
+// than 9.
 fn close(random: &mut Random) -> Reading {
     Reading {
         value: random.next(9) as i32 - 5,

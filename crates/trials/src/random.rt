@@ -18,6 +18,7 @@ impl Random {
         (self.0 >> 8) % below.max(1)
     }
 
+    // Below 60,001, so the cast loses nothing.
     pub(crate) fn level(&mut self) -> i32 {
         LOWEST + self.next(60_001) as i32
     }
