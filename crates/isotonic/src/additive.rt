@@ -37,7 +37,7 @@ pub trait Additive: Copy {
     ghost first: { (c : Self) → PrefersFirst (costs c) (least c) };
 }
 
-// The sum of the costs of all readings. As a chain it leaves two goals that no short answer closes.
+// The sum of the costs of all readings. As a chain it needs a longer proof.
 fn added<C: Additive>(cost: C, list: Readings<'_>, level: i32) -> u64
     requires few { length (rows_of list) ≤ limit }
     requires level { Level level }

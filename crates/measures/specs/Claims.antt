@@ -7,7 +7,7 @@ use Rattle.measures.specs.Largest.{largest_departs, largest_prefers}
 use Rattle.measures.specs.Squared.{squared_departs, squared_prefers}
 use Rattle.measures.specs.Values.{distance, floored, largest, nearest, smallest}
 
--- so it is under A, S and L
+-- under A, S and L the preferred level is the smallest of the levels of least departure
 abbrev pub AllPreferSmallestOfLeast : Type 0
 AllPreferSmallestOfLeast =
     PrefersSmallestOfLeast absolute_departs absolute_prefers × PrefersSmallestOfLeast squared_departs squared_prefers

@@ -26,8 +26,8 @@ fn counted(row: Reading, level: i32) -> u64
     }
 }
 
-// The weight of all values up to a level. A chain took 1.8 times as long. It is no departure of a measure,
-// so it has a loop of its own.
+// The weight of all values up to a level. A chain is slower; and it is no departure of a measure, so it has a
+// loop of its own.
 fn weight_up_to(sample: Sample<'_>, level: i32) -> u64
     ensures { result ≡ weight_up_to (sampled sample.entry) level }
 {

@@ -17,7 +17,7 @@ use reading::{HIGHEST, LOWEST, Readings};
 #[derive(Clone, Copy, PartialEq, Eq, Debug)]
 pub struct Largest;
 
-// The largest |value - level|; 0 for no readings. A chain took 1.2 times as long.
+// The largest |value - level|; 0 for no readings. A chain is slower.
 fn farthest(list: Readings<'_>, level: i32) -> u64
     ensures { result ≡ largest_departs (rows_of list.entry) level }
 {

@@ -12,7 +12,7 @@ pub struct Readings<'a> {
     ghost scaled: { Scaled rows.now },
 }
 
-// How many rows stand before the first that is off the scale. As a chain it slowed a measure down by a fifth.
+// How many rows stand before the first that is off the scale. As a chain it is slower.
 fn scaled_count(rows: &[Reading]) -> usize
     ensures { result ≡ prefix_len on_scale rows.now }
 {

@@ -5,7 +5,7 @@ use Rattle.std.specs.List.{All, flat_map}
 use Rattle.std.specs.Simd.{first_chunks}
 use Rattle.std.proofs.lemmas.Bool.{cond-true, cond-false, cond_both, lt-ltb, le-ltb}
 use Rattle.std.proofs.lemmas.List.Elements.{All-cons, All-nil, All-tail}
-use Rattle.stored.specs.Words.{word, number, split, words, from_complement, to_complement}
+use Rattle.stored.specs.Words.{word, pair_number, split, words, from_complement, to_complement}
 
 -- every entry is a byte, or has two bytes
 abbrev pub Bytes : List ℕ → Type 0
@@ -44,7 +44,7 @@ length_words (a ∷ b ∷ bs) zero e = absurd (omega arith)
 length_words (a ∷ b ∷ bs) (suc n) e = ap suc (length_words bs n (omega arith))
 
 -- the library's chunks of two, read as numbers
-pub words_chunks : (bs : List ℕ) (n : ℕ) → length bs ≡ 2 * n → map number (first_chunks 2 n bs) ≡ words bs
+pub words_chunks : (bs : List ℕ) (n : ℕ) → length bs ≡ 2 * n → map pair_number (first_chunks 2 n bs) ≡ words bs
 words_chunks [] zero e = refl
 words_chunks [] (suc n) e = absurd (omega arith)
 words_chunks (a ∷ []) n e = absurd (omega arith)

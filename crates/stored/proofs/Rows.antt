@@ -18,7 +18,7 @@ use Rattle.stored.specs.Forms.{paired, stored_rows}
 use Rattle.stored.specs.declared.table.Table.{Table}
 use Rattle.stored.specs.Rows.{row_from, rows_from}
 use Rattle.stored.specs.Tables.{table_rows}
-use Rattle.stored.specs.Words.{number, from_complement}
+use Rattle.stored.specs.Words.{pair_number, from_complement}
 use Rattle.stored.proofs.Pairs.{words_chunks}
 use Rattle.stored.proofs.Stored.{stored_words}
 
@@ -64,7 +64,7 @@ module _ (table : Table) (s : Walk) (first : iter_rest s.iter.a ≡ table.values
   row_end r u is next =
       (YieldsList-end chain xs t so_far r u is next).1 ∙ length-enumerate_from 0 pairs ∙ sym (length-map pairs row)
 
-rows_paired : (vs ws : List (List ℕ)) → paired (map from_complement (map number vs)) (map number ws) ≡ rows_from vs ws
+rows_paired : (vs ws : List (List ℕ)) → paired (map from_complement (map pair_number vs)) (map pair_number ws) ≡ rows_from vs ws
 rows_paired [] ws = refl
 rows_paired (v ∷ vs) [] = refl
 rows_paired (v ∷ vs) (w ∷ ws) = ap (λ rs. row_from v w ∷ rs) (rows_paired vs ws)
@@ -77,6 +77,6 @@ rows_stored n rest long =
     let cells = first_chunks 2 (2 * n) rest in
     stored_words n rest
     ∙ ap (λ ns. paired (map from_complement (take n ns)) (drop n ns)) (sym (words_chunks rest (2 * n) (omega arith)))
-    ∙ ap (λ ns. paired (map from_complement ns) (drop n (map number cells))) (take-map number n cells)
-    ∙ ap (λ ns. paired (map from_complement (map number (take n cells))) ns) (drop-map number n cells)
+    ∙ ap (λ ns. paired (map from_complement ns) (drop n (map pair_number cells))) (take-map pair_number n cells)
+    ∙ ap (λ ns. paired (map from_complement (map pair_number (take n cells))) ns) (drop-map pair_number n cells)
     ∙ rows_paired (take n cells) (drop n cells)

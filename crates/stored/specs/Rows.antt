@@ -2,11 +2,11 @@
 use Rattle.std.specs.Prelude.{List, ℕ, map}
 use Rattle.std.specs.List.{zip}
 use Rattle.reading.specs.declared.scale.Reading.{Reading}
-use Rattle.stored.specs.Words.{number, from_complement}
+use Rattle.stored.specs.Words.{pair_number, from_complement}
 
 -- the reading that the pair of its value and the pair of its weight are
 abbrev pub row_from : List ℕ → List ℕ → Reading
-row_from value weight = record { value = from_complement (number value); weight = number weight }
+row_from value weight = record { value = from_complement (pair_number value); weight = pair_number weight }
 
 -- the rows of two columns, a value beside each weight
 abbrev pub rows_from : List (List ℕ) → List (List ℕ) → List Reading

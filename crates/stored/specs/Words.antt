@@ -6,8 +6,8 @@ abbrev pub word : ℕ → ℕ → ℕ
 word low high = low + high * 256
 
 -- the number that a pair of bytes is
-abbrev pub number : List ℕ → ℕ
-number pair = word (slice_index pair 0) (slice_index pair 1)
+abbrev pub pair_number : List ℕ → ℕ
+pair_number pair = word (slice_index pair 0) (slice_index pair 1)
 
 -- the two bytes of a number below 65,536
 abbrev pub split : ℕ → List ℕ

@@ -17,7 +17,7 @@ fn close(random: &mut Random) -> Reading {
 }
 
 // Prints the preferred level and the departures at it, at the lowest level and at another one. The letter is only
-// printed. The figures print other departures, and no crate below both prints.
+// printed. The crate `figures` prints other departures.
 fn show(
     rt: &impl Print,
     letter: char,

@@ -50,7 +50,7 @@ fn returns(alloc: Global, random: &mut Random, count: usize) -> Result<bool, All
 
 pub(crate) fn there_and_back(rt: &impl Print, alloc: Global) -> io::Result<()> {
     let mut random = Random::new(1);
-    // What allocates and draws in turn is no `filter`.
+    // `filter` cannot pass on a failed allocation.
     let mut returned = 0u32;
     for turn in 0..205 {
         if returns(alloc, &mut random, 5 * turn + 4)? {
