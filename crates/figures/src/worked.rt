@@ -11,6 +11,7 @@ pub fn figures_of_the_definitions()
     ensures { WorkedFigures }
 {}
 
+// One line, as in tests: no library crate has it.
 fn row(value: i32, weight: u32) -> Reading {
     Reading { value, weight }
 }

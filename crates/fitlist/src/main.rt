@@ -15,6 +15,7 @@ const OUTPUT_ROOM: usize = 65_536;
 fn run(alloc: Global, input: impl Read + Drop, output: &mut impl Write) -> io::Result<()> {
     let mut bytes = Vec::new(alloc);
     input.take(INPUT_LIMIT).read_to_end(&mut bytes)?;
+    // The listing writes to a slice that it is lent.
     let mut text = vec![in alloc; 0; OUTPUT_ROOM]?;
     match listing(&bytes, &mut text) {
         Ok(count) => output.write_all(&text[..count]),

@@ -37,7 +37,7 @@ pub trait Additive: Copy {
     ghost first: { (c : Self) → PrefersFirst (costs c) (least c) };
 }
 
-// The sum of the costs of all readings. As a chain it needs a longer proof.
+// The sum of the costs of all readings. As a chain its proof did not close.
 fn added<C: Additive>(cost: C, list: Readings<'_>, level: i32) -> u64
     requires few { length (rows_of list) ≤ limit }
     requires level { Level level }
@@ -74,7 +74,7 @@ impl<C: Additive> Measure for C {
     fn departure(self, list: Readings<'_>, level: i32) -> Option<u64>
         ensures { result ≡ departure_answer (total (C.costs self)) (rows_of list.entry) level }
     {
-        // Not `then`: what a closure here would give is not known to the proof.
+        // Not `then`: its closure would want clauses of its own.
         if !has_departure(list, level) {
             return None;
         }

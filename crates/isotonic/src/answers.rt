@@ -29,5 +29,5 @@ pub fn has_combination(first: u64, second: u64) -> bool
 pub fn has_preferred(list: Readings<'_>) -> bool
     ensures { result ≡ has_preferred (rows_of list.entry) }
 {
-    1 <= list.len() && list.len() <= LIMIT
+    (1..=LIMIT).contains(&list.len())
 }

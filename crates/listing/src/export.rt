@@ -40,7 +40,8 @@ impl From<Result<usize, Refusal>> for Answer {
     }
 }
 
-// As `listing`, in plain numbers. The crate `listing_c` exports it under this name.
+// As `listing`, in plain numbers. The crate `listing_c` exports it under this name. Each of the three calls says
+// the same, since each is read alone.
 pub fn fit_listing(input: &[u8], output: &mut [u8]) -> Answer
     ensures value { result ≡ answer_of (delivered (listing_of input.now) output.old) }
     ensures after { output.new ≡ filled (listing_of input.now) output.old }

@@ -27,6 +27,7 @@ impl TryFrom<u8> for Letter {
     }
 }
 
+// A byte is no discriminant: `b'A'` would want a cast there.
 impl From<Letter> for u8 {
     ghost from_gives = { λ letter byte. byte ≡ letter_byte letter };
 
@@ -50,6 +51,7 @@ impl Letter {
         }
     }
 
+    // As `From`, for callers of before.
     pub fn byte(self) -> u8
         ensures { result ≡ letter_byte self }
     {

@@ -5,7 +5,8 @@ ghost use Rattle.listing.specs.Pages.{Printed};
 use itoa::{Buffer, Integer};
 
 // So a run over an empty page tells the room that the same run needs.
-// A slice with a count beside it, since the library takes no memory of its own.
+// A slice with a count beside it, since the library takes no memory of its own; and not the bounded list, which
+// refuses what does not fit.
 #[derive(Drop)]
 pub(crate) struct Page<'a> {
     bytes: &'a mut [u8],

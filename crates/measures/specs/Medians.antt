@@ -3,7 +3,7 @@ use Rattle.std.specs.Prelude.{◌≡◌, ℕ, zero, suc, ◌+◌, ◌*◌, ◌<�
 use Rattle.std.proofs.Common.{inl, inr, ⊎_elim, sym, ap, subst, ◌∙◌, mul-le-mul, arith}
 use Rattle.std.proofs.ByRecursion.{all_kept_by, kept_by_passes}
 use Rattle.std.proofs.lemmas.Int.{ints, by_lt_z}
-use Rattle.std.proofs.lemmas.List.Sums.{sum_by-cons}
+use Rattle.std.proofs.lemmas.List.Sums.{sum_by-cons, sum_by-le-sum_by}
 use Rattle.std.proofs.lemmas.Bool.{both_ways, cases_lt, cond_both, cond-false, cond-true, leb-true, le-leb}
 use Rattle.std.specs.List.{AllByRecursion}
 use Rattle.reading.specs.declared.scale.Reading.{Reading}
@@ -116,10 +116,7 @@ all_below (r ∷ rs) all =
     omega (arith, all_below rs all.1, sum_by-cons (λ s. counted s (at top)) r rs, sum_by-cons (λ s. s.weight) r rs)
 
 pub up_to_rises : (rs : List Reading) (u v : ℤ) → u ≤ℤ v → weight_up_to rs u ≤ weight_up_to rs v
-up_to_rises [] u v h = omega arith
-up_to_rises (r ∷ rs) u v h =
-    let one = counted_rises r r u v refl h (omega (arith, ints)) in
-    omega (arith, up_to_rises rs u v h, sum_by-cons (λ s. counted s u) r rs, sum_by-cons (λ s. counted s v) r rs)
+up_to_rises rs u v h = sum_by-le-sum_by (λ s. counted s u) (λ s. counted s v) rs (λ s. counted_rises s s u v refl h (omega (arith, ints)))
 
 -- twice the weight of all values up to a level reaches the whole weight there, and at no lower level
 pub record Median (rs : List Reading) (p : ℕ) : Type 0 where

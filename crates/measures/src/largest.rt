@@ -83,7 +83,7 @@ impl Measure for Largest {
     fn departure(self, list: Readings<'_>, level: i32) -> Option<u64>
         ensures { result ≡ departure_answer largest_departs (rows_of list.entry) level }
     {
-        // Not `then`: what a closure here would give is not known to the proof.
+        // Not `then`: its closure would want clauses of its own.
         if !has_departure(list, level) {
             return None;
         }

@@ -5,6 +5,7 @@ use crate::squared::Squared;
 use isotonic::{COMBINED_MOST, Measure};
 use reading::{LIMIT, Reading, Readings};
 
+// One line, as in other tests: no library crate has it.
 fn of(value: i32, weight: u32) -> Reading {
     Reading { value, weight }
 }

@@ -5,6 +5,7 @@ use crate::scale::Reading;
 use crate::slots::Bounded;
 use std::test::Fail;
 
+// One line, as in other tests: no library crate has it.
 fn of(value: i32, weight: u32) -> Reading {
     Reading { value, weight }
 }

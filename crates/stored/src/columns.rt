@@ -1,4 +1,5 @@
-// The two columns of the stored form: what each stores of a reading.
+// The two columns of the stored form: what each stores of a reading. They are cases and no closures, since
+// contracts name them.
 ghost use Rattle.std.specs.Prelude.{◌≡◌};
 ghost use Rattle.reading.specs.Scale.{OnScale};
 ghost use Rattle.stored.specs.Forms.{cell_of};

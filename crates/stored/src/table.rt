@@ -7,6 +7,7 @@ use reading::{LIMIT, Reading, Refusal};
 // As many values as weights, each in its two bytes.
 #[derive(Clone, Copy)]
 pub(crate) struct Table<'a> {
+    // The stored form has two columns.
     values: &'a [[u8; 2]],
     weights: &'a [[u8; 2]],
     ghost alike: { length weights.now ≡ length values.now },
@@ -84,7 +85,7 @@ impl<'a> Table<'a> {
         ensures { into.new ≡ put_from 0 (table_rows self.entry) into.old }
     {
         for (i, (value, weight)) in self.values.iter().zip(self.weights).enumerate() {
-            // A proof knows nothing of the elements after `iter_mut`, so the write is by index.
+            // A proof knows nothing of the elements after `iter_mut` under `zip`, so the write is by index.
             into[i] = row_from(*value, *weight);
         }
     }

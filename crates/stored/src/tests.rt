@@ -125,48 +125,20 @@ fn sizes_up_to_the_limit_are_granted(rt: HostRuntime) -> Result<(), Fail> {
 fn off_the_scale_is_refused_at_its_place(rt: HostRuntime) -> Result<(), Fail> {
     let heap = rt.alloc();
     for place in [1usize, 2, 1_023, 1_024] {
-        let low = Odd {
-            place,
-            value: -30_001,
-            weight: 0,
-        };
-        assert_eq!(rt;
-            check_stored(&bytes_with(heap, low)?),
-            Err(Refusal::ValueOffScale { place })
-        );
-        let high = Odd {
-            place,
-            value: 30_001,
-            weight: 1_001,
-        };
-        assert_eq!(rt;
-            check_stored(&bytes_with(heap, high)?),
-            Err(Refusal::ValueOffScale { place })
-        );
-        let light = Odd {
-            place,
-            value: -30_000,
-            weight: 0,
-        };
-        assert_eq!(rt;
-            check_stored(&bytes_with(heap, light)?),
-            Err(Refusal::WeightOffScale { place })
-        );
-        let heavy = Odd {
-            place,
-            value: 30_000,
-            weight: 1_001,
-        };
-        assert_eq!(rt;
-            check_stored(&bytes_with(heap, heavy)?),
-            Err(Refusal::WeightOffScale { place })
-        );
-        let last = Odd {
-            place,
-            value: -30_000,
-            weight: 1_000,
-        };
-        assert_eq!(rt; check_stored(&bytes_with(heap, last)?), Ok(1_024));
+        for (value, weight, told) in [
+            (-30_001, 0, Err(Refusal::ValueOffScale { place })),
+            (30_001, 1_001, Err(Refusal::ValueOffScale { place })),
+            (-30_000, 0, Err(Refusal::WeightOffScale { place })),
+            (30_000, 1_001, Err(Refusal::WeightOffScale { place })),
+            (-30_000, 1_000, Ok(1_024)),
+        ] {
+            let odd = Odd {
+                place,
+                value,
+                weight,
+            };
+            assert_eq!(rt; check_stored(&bytes_with(heap, odd)?), told);
+        }
     }
     Ok(())
 }

@@ -8,7 +8,7 @@ use crate::columns::Column;
 use crate::words::put_word;
 use reading::{LIMIT, Readings, Refusal};
 
-// Writes one column of the readings, from the word at an index on.
+// Writes one column of the readings, from the word at an index on, and by index as `put_word` says.
 fn put_column(list: Readings<'_>, column: Column, into: &mut [u8], at: usize)
     requires { 2 * (at + length (rows_of list)) ≤ length into.old }
     ensures { into.new ≡ put_from (2 * at) (column_bytes column (rows_of list.entry)) into.old }

@@ -14,7 +14,7 @@ use isotonic::Measure;
 use measures::Largest;
 use reading::Readings;
 
-// The largest distance, in whole tenths. It is written out where it is as L, since it shows what a measure wants.
+// The largest distance, in whole tenths. It is written out also where it is as L is, since it shows what a measure wants.
 #[derive(Clone, Copy, PartialEq, Eq, Debug)]
 pub struct Tenths;
 

@@ -18,6 +18,7 @@ const USUAL: Row = Row {
 
 // A and these rows behind it: their count twice, their values, then their weights.
 fn profile(alloc: Global, rows: &[Row]) -> Result<Vec<u8>, AllocError> {
+    // No profile here is longer than its size can say.
     let count = u16::try_from(rows.len()).unwrap_or(u16::MAX).to_le_bytes();
     let values = rows.iter().map(|row| row.value.to_le_bytes());
     let weights = rows.iter().map(|row| row.weight.to_le_bytes());

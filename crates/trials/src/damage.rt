@@ -12,6 +12,7 @@ use std::{fmt, io};
 #[derive(Drop)]
 struct Tally {
     granted: u32,
+    // By the numbers that are printed.
     refused: BTreeMap<u8, u32>,
     places: usize,
     spoiled: u32,
@@ -56,6 +57,7 @@ impl Tally {
 
     fn of_one_byte_changed(alloc: Global, sample: &Sample) -> Result<Self, AllocError> {
         let mut tally = Tally::new(alloc);
+        // The index itself is what varies.
         for at in 0..sample.len() {
             tally.note_bytes_at(at, sample)?;
         }

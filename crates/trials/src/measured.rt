@@ -49,6 +49,7 @@ fn each_measure(rt: &impl Print, rows: &[Reading], other: i32) -> io::Result<()>
 // Lists of a few readings close together.
 fn narrow(rt: &impl Print, random: &mut Random) -> io::Result<()> {
     for turn in 0..40 {
+        // All are drawn, so that the draws stay the same whatever the length.
         let rows: [Reading; 6] = array::from_fn(|_| close(random));
         let length = turn % 7;
         println!(rt; "{length} readings close together")?;
@@ -68,6 +69,7 @@ fn length_at(turn: usize) -> usize
 // Lists of more and more readings over the whole scale.
 fn wide(rt: &impl Print, random: &mut Random) -> io::Result<()> {
     for turn in 0..20 {
+        // All are drawn here too.
         let rows: [Reading; LIMIT] = array::from_fn(|_| random.reading());
         let other = random.level();
         let length = length_at(turn);

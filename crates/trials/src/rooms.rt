@@ -23,7 +23,9 @@ fn keeps(input: &[u8], whole: &[u8], room: usize) -> bool {
 
 pub(crate) fn each_room(rt: &impl Print, input: &[u8]) -> io::Result<()> {
     let mut text = [FILLER; ROOM];
-    let length = listing(input, &mut text).unwrap_or(0);
+    let Ok(length) = listing(input, &mut text) else {
+        return println!(rt; "rooms: the listing was refused");
+    };
     let whole = &text[..length];
     let kept = (0..=ROOM).filter(|&room| keeps(input, whole, room)).count();
     println!(rt; "rooms 0 to {ROOM}: {kept} left what they should")

@@ -37,6 +37,7 @@ fn read_back(alloc: Global, bytes: &[u8]) -> Result<Option<Vec<Reading>>, AllocE
 
 // Whether so many random readings come back as they were, from bytes that come back too.
 fn returns(alloc: Global, random: &mut Random, count: usize) -> Result<bool, AllocError> {
+    // All are drawn, so that the draws stay the same whatever the count.
     let rows: [Reading; LIMIT] = array::from_fn(|_| random.reading());
     let rows = &rows[..count.min(LIMIT)];
     let Some(bytes) = written(alloc, rows)? else {
