@@ -56,6 +56,7 @@ mod tests {
         Ok(())
     }
 
+    // Two tests with a table each, so that each says what it is about.
     #[test]
     fn prints_a_listing_or_a_refusal(rt: HostRuntime) -> Result<(), Fail> {
         for (length, text) in [

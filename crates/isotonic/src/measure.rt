@@ -17,7 +17,8 @@ pub trait Measure: Copy {
 
     ghost prefers: { Self → List Reading → ℤ };
 
-    // What the readings depart by at a level; nothing unless `has_departure`.
+    // What the readings depart by at a level; nothing unless `has_departure`. A level is a plain number, since
+    // callers count and compare levels.
     fn departure(self, list: Readings<'_>, level: i32) -> Option<u64>
         ensures { result ≡ departure_answer (departs self) (rows_of list.entry) level };
 

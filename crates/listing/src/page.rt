@@ -29,6 +29,7 @@ impl<'a> Page<'a> {
         self.count
     }
 
+    // `Printed` is of the page before and after: a page alone does not keep what it only counts.
     pub(crate) fn put(&mut self, text: &[u8])
         ensures { Printed self.old text.now self.new }
     {

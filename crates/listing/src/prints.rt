@@ -49,6 +49,7 @@ pub fn listing(input: &[u8], output: &mut [u8]) -> Result<usize, Refusal>
     let readings = stored::check(&input[1..])?;
     let heading = Heading { letter, readings };
     let needed = heading.print(&mut []);
+    // Each call tests the room for what it alone has counted.
     if needed > output.len() {
         return Err(Refusal::TooLittleRoom { needed });
     }

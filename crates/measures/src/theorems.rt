@@ -1,4 +1,5 @@
-// The theorems on the measures and their definitions, each the promise of a function that does nothing.
+// The theorems on the measures and their definitions, each the promise of a function that does nothing. The first
+// three are alike, but each is on definitions of its own.
 ghost use Rattle.std.specs.Prelude.{◌≡◌, ◌+◌, max};
 ghost use Rattle.measures.specs.Absolute.{absolute_departs, absolute_prefers};
 ghost use Rattle.measures.specs.Claims.{AllPreferSmallestOfLeast, ExtremesAreReached, FlooredIsLargestNotAbove, NearestIsNearest};

@@ -25,6 +25,7 @@ pub fn read(bytes: &[u8], into: &mut [Reading]) -> Result<usize, Refusal>
 {
     let table = Table::of(bytes)?;
     let count = table.len();
+    // Each call tests the room for what it alone has counted.
     if count > into.len() {
         return Err(Refusal::TooLittleRoom { needed: count });
     }

@@ -79,7 +79,7 @@ impl<'a> Table<'a> {
         self.values.len()
     }
 
-    // Copies the rows to the front of a list.
+    // Copies the rows to the front of a list. The walk is that of `admitted`, but it writes.
     pub(crate) fn fill(self, into: &mut [Reading])
         requires { length (table_rows self) ≤ length into.old }
         ensures { into.new ≡ put_from 0 (table_rows self.entry) into.old }

@@ -29,6 +29,7 @@ pub fn write(list: Readings<'_>, into: &mut [u8]) -> Result<usize, Refusal>
         return Err(Refusal::TooMany { size: count });
     }
     let needed = 4 + 4 * count;
+    // Each call tests the room for what it alone has counted.
     if needed > into.len() {
         return Err(Refusal::TooLittleRoom { needed });
     }

@@ -29,6 +29,7 @@ fn profile(alloc: Global, rows: &[Row]) -> Result<Vec<u8>, AllocError> {
     Ok(bytes)
 }
 
+// `rt` and `alloc` are two handles that `main` gives, and no fact ties them.
 fn each_length(rt: &impl Print, alloc: Global) -> io::Result<()> {
     for count in [0u16, 1, 9, 10, 99, 100, 999, 1_000, 1_023, 1_024, 1_025] {
         let rows = vec![in alloc; USUAL; usize::from(count)]?;

@@ -24,6 +24,7 @@ pub(crate) const ROOM: usize = 64;
 
 // Prints the listing of an input, or its refusal.
 pub(crate) fn show(rt: &impl Print, input: &[u8]) -> io::Result<()> {
+    // The listing writes to a slice that it is lent.
     let mut output = [0; ROOM];
     match listing(input, &mut output) {
         Ok(count) => rt.write_all(&output[..count]),

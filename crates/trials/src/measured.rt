@@ -66,7 +66,7 @@ fn length_at(turn: usize) -> usize
     2 * turn * turn + 1
 }
 
-// Lists of more and more readings over the whole scale.
+// Lists of more and more readings over the whole scale. It draws and measures otherwise than `narrow`.
 fn wide(rt: &impl Print, random: &mut Random) -> io::Result<()> {
     for turn in 0..20 {
         // All are drawn here too.
