@@ -1,14 +1,8 @@
 use Rattle.std.proofs.Common.{◌+◌, ◌*◌, ◌≤◌, length, ap, ◌∙◌, arith}
-use Rattle.std.proofs.lemmas.List.{take_all}
-use Rattle.reading.proofs.Puts.{put_none}
 use Rattle.reading.specs.Lists.{put_from}
-use Rattle.stored.specs.Forms.{column_bytes}
 use Rattle.stored.specs.Words.{split}
 use Rattle.stored.proofs.Lays.{column_laid}
 use Rattle.stored.proofs.writes.put_column.Goals as goal
-
-pub loop-i-init : goal.loop-i-init
-loop-i-init c = put_none (2 * c.args.at) c.args.into.now
 
 pub loop-i-preserved : goal.loop-i-preserved
 loop-i-preserved c =
@@ -17,9 +11,3 @@ loop-i-preserved c =
     c.put_word.ensures
     ∙ ap (λ k. put_from (2 * (c.args.at + c.loop-i.i)) (split k) c.loop-i.into) c.cell.ensures
     ∙ column_laid c.args.column rows c.args.into.now c.loop-i.into c.args.at c.loop-i.i _ c.loop-i-test.true room c.loop-i.invariant
-
-pub returns : goal.returns
-returns c =
-    let same = c.rows-row-items.ensures in
-    c.loop-i.invariant
-    ∙ ap (λ rs. put_from (2 * c.args.at) (column_bytes c.args.column rs) c.args.into.now) (take_all _ _ (omega arith) ∙ same)
