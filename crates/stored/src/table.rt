@@ -73,6 +73,7 @@ impl<'a> Table<'a> {
     }
 
     // How many rows there are.
+    #[tactic(auto, using(crate::proofs::Rows::length_rows))]
     pub(crate) fn len(self) -> usize
         ensures { result ≡ length (table_rows self.entry) }
     {
