@@ -1,7 +1,8 @@
 -- What stored bytes decode to: the rows behind the sizes, and no two stored profiles the same.
-use Rattle.std.proofs.Common.{◌≡◌, ℕ, suc, ◌+◌, ◌*◌, ◌/◌, ◌≤◌, eqb, leb, List, [], ◌∷◌, ◌++◌, cond, length, get_or, take, drop, IfOk, Ok, Err, Result, sym, ap, ◌∙◌, arith}
+use Rattle.std.proofs.Common.{◌≡◌, ℕ, suc, ◌+◌, ◌*◌, ◌/◌, ◌<◌, ◌≤◌, eqb, leb, List, [], ◌∷◌, ◌++◌, cond, length, get_or, take, drop, IfOk, Ok, Err, Result, Fits, w8, sym, ap, ◌∙◌, arith}
 use Rattle.std.specs.Simd.{first_chunks}
 use Rattle.std.proofs.lemmas.Bool.{eqb-true}
+use Rattle.std.proofs.lemmas.List.Elements.{All-from_get_or}
 use Rattle.reading.specs.declared.refusals.Refusal.{Refusal}
 use Rattle.reading.specs.declared.refusals.Refusal.TheVariants.{WrongLength, SizesDiffer, TooMany}
 use Rattle.reading.specs.declared.scale.Reading.{Reading}
@@ -70,8 +71,9 @@ decoded_granted (a ∷ b ∷ c ∷ d ∷ rest) rs h =
           ∙ ap (λ xs. a ∷ b ∷ c ∷ d ∷ xs) columns,
     )
 
-pub decoded_exact : (bs : List ℕ) → Bytes bs → (rs : List Reading) → decoded bs ≡ Ok rs → encoded rs ≡ bs
-decoded_exact bs all rs h = (decoded_granted bs rs h).2 all
+-- stored bytes, each as a slice of bytes has it, are what the readings that they hold are encoded as
+pub decoded_exact : (bs : List ℕ) → ((k : ℕ) → Fits w8 (get_or bs k 0)) → (rs : List Reading) → decoded bs ≡ Ok rs → encoded rs ≡ bs
+decoded_exact bs fits rs h = (decoded_granted bs rs h).2 (All-from_get_or (λ x. x < 256) bs 0 (λ k h. (fits k).fits))
 
 -- what is counted is the rows behind the sizes
 pub counted_rows :

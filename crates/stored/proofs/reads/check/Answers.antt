@@ -1,5 +1,4 @@
-use Rattle.std.proofs.Common.{◌≡◌, ◌<◌, length, Ok, rules}
-use Rattle.std.proofs.lemmas.List.Elements.{All-from_get_or}
+use Rattle.std.proofs.Common.{◌≡◌, length, Ok, rules}
 use Rattle.reading.specs.Results.{then}
 use Rattle.stored.specs.Forms.{decoded}
 use Rattle.stored.proofs.Decodes.{counted_rows, decoded_exact}
@@ -12,5 +11,5 @@ returns c =
     record {
       value = counted;
       rows = counted_rows bs c.map.result counted;
-      exact = decoded_exact bs (All-from_get_or (λ x. x < 256) bs 0 (λ k h. (c.type_inv.bytes k).fits));
+      exact = decoded_exact bs c.type_inv.bytes;
     }

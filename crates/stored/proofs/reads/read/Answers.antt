@@ -1,5 +1,4 @@
-use Rattle.std.proofs.Common.{◌<◌, take, ap, ◌∙◌, sym, arith}
-use Rattle.std.proofs.lemmas.List.Elements.{All-from_get_or}
+use Rattle.std.proofs.Common.{take, ap, ◌∙◌, sym, arith}
 use Rattle.reading.proofs.Puts.{take_put}
 use Rattle.stored.specs.Forms.{encoded}
 use Rattle.stored.specs.Tables.{table_rows}
@@ -11,4 +10,4 @@ returns-clause-exact c =
     let bs = c.args.bytes.now in
     let rows = table_rows c.in_ok-table.table in
     ap encoded (ap (take c.len-count.result) c.fill.ensures ∙ take_put rows c.args.into.now c.len-count.result c.len-count.ensures (omega arith))
-    ∙ decoded_exact bs (All-from_get_or (λ x. x < 256) bs 0 (λ k h. (c.type_inv.bytes k).fits)) rows (sym c.in_ok-table.ensures)
+    ∙ decoded_exact bs c.type_inv.bytes rows (sym c.in_ok-table.ensures)
