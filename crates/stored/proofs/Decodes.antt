@@ -20,20 +20,22 @@ use Rattle.stored.proofs.Trips.{rows_exact, sized_is}
 
 -- bytes taken two by two: behind the pairs of the sizes, which agree, are the pairs of the table
 pub table_decoded :
-    (bs : List ℕ) (n : ℕ) (pairs : List (List ℕ)) → pairs ≡ first_chunks 2 (length bs / 2) bs
+    (bs : List ℕ) (n : ℕ) (pairs vs ws : List (List ℕ)) → pairs ≡ first_chunks 2 (length bs / 2) bs
     → n ≡ pair_number (get_or pairs 0 []) → n ≡ pair_number (get_or pairs 1 []) → n ≤ limit → length bs ≡ 4 + 4 * n
-    → decoded bs ≡ all_admitted 1 (rows_from (take n (drop 2 pairs)) (drop n (drop 2 pairs)))
-table_decoded [] n pairs p first second few long = absurd (omega arith)
-table_decoded (a ∷ []) n pairs p first second few long = absurd (omega arith)
-table_decoded (a ∷ b ∷ []) n pairs p first second few long = absurd (omega arith)
-table_decoded (a ∷ b ∷ c ∷ []) n pairs p first second few long = absurd (omega arith)
-table_decoded (a ∷ b ∷ c ∷ d ∷ rest) n pairs p first second few long =
+    → vs ≡ take n (drop 2 pairs) → ws ≡ drop n (drop 2 pairs) → decoded bs ≡ all_admitted 1 (rows_from vs ws)
+table_decoded [] n pairs vs ws p first second few long front back = absurd (omega arith)
+table_decoded (a ∷ []) n pairs vs ws p first second few long front back = absurd (omega arith)
+table_decoded (a ∷ b ∷ []) n pairs vs ws p first second few long front back = absurd (omega arith)
+table_decoded (a ∷ b ∷ c ∷ []) n pairs vs ws p first second few long front back = absurd (omega arith)
+table_decoded (a ∷ b ∷ c ∷ d ∷ rest) n pairs vs ws p first second few long front back =
     let half : length (a ∷ b ∷ c ∷ d ∷ rest) / 2 ≡ suc (suc (2 * n)) = omega arith in
     let q : pairs ≡ (a ∷ b ∷ []) ∷ (c ∷ d ∷ []) ∷ first_chunks 2 (2 * n) rest = p ∙ ap (λ k. first_chunks 2 k (a ∷ b ∷ c ∷ d ∷ rest)) half in
     let m : n ≡ word a b = first ∙ ap (λ ps. pair_number (get_or ps 0 [])) q in
     let k : n ≡ word c d = second ∙ ap (λ ps. pair_number (get_or ps 1 [])) q in
-    ap (λ i. sized i (word c d) rest) (sym m) ∙ sized_is n (word c d) rest k few (omega arith)
-    ∙ ap (all_admitted 1) (rows_stored n rest (omega arith)) ∙ sym (ap (λ ps. all_admitted 1 (rows_from (take n (drop 2 ps)) (drop n (drop 2 ps)))) q)
+    let cells : drop 2 pairs ≡ first_chunks 2 (2 * n) rest = ap (drop 2) q in
+    let rows = rows_stored n rest (omega arith) in
+    let whole = sized_is n (word c d) rest k few (omega arith) in
+    cc
 
 -- what is granted behind two sizes
 sized_granted :
