@@ -18,6 +18,7 @@ pub fn check(bytes: &[u8]) -> Result<usize, Refusal>
 }
 
 // Writes the readings that stored bytes hold to the front of a list, and answers how many.
+#[tactic(auto, using(crate::proofs::Decodes::decoded_exact, reading::proofs::Puts::take_put))]
 pub fn read(bytes: &[u8], into: &mut [Reading]) -> Result<usize, Refusal>
     ensures value { result ≡ delivered (decoded bytes.now) into.old }
     ensures after { into.new ≡ filled (decoded bytes.now) into.old }

@@ -1,15 +1,9 @@
-use Rattle.std.proofs.Common.{◌≡◌, length, Ok, rules}
-use Rattle.reading.specs.Results.{then}
-use Rattle.stored.specs.Forms.{decoded}
+use Rattle.std.proofs.Common.{rules}
 use Rattle.stored.proofs.Decodes.{counted_rows, decoded_exact}
 use Rattle.stored.proofs.reads.check.Goals as goal
 
-pub returns : goal.returns
-returns c =
-    let bs = c.args.bytes.now in
-    let counted : c.map.result ≡ then (decoded bs) (λ rs. Ok (length rs)) = search rules in
-    record {
-      value = counted;
-      rows = counted_rows bs c.map.result counted;
-      exact = decoded_exact bs c.type_inv.bytes;
-    }
+pub returns-clause-rows : goal.returns-clause-rows
+returns-clause-rows c = counted_rows c.args.bytes.now c.map.result (search rules)
+
+pub returns-clause-exact : goal.returns-clause-exact
+returns-clause-exact c = decoded_exact c.args.bytes.now c.type_inv.bytes
