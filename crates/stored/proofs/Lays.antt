@@ -1,14 +1,16 @@
 -- The stored form as it is laid down: a column word by word, and the whole part by part.
-use Rattle.std.proofs.Common.{◌≡◌, ℕ, ◌+◌, ◌*◌, ◌<◌, ◌≤◌, List, [], ◌++◌, length, get_or, take, sym, refl, ap, ◌∙◌, arith}
+use Rattle.std.proofs.Common.{◌≡◌, ℕ, ◌+◌, ◌*◌, ◌<◌, ◌≤◌, leb, List, [], ◌++◌, length, get_or, take, Ok, sym, refl, ap, ◌∙◌, arith}
+use Rattle.std.proofs.lemmas.Bool.{cond_both}
 use Rattle.std.proofs.lemmas.List.{flat_map_more, length-append, length-take, take_more}
-use Rattle.reading.proofs.Puts.{put_then}
-use Rattle.reading.specs.Lists.{put_from}
+use Rattle.reading.proofs.Puts.{put_over, put_then, take_put}
+use Rattle.reading.specs.Lists.{filled, put_from}
+use Rattle.reading.specs.Scale.{limit, Scaled}
 use Rattle.reading.specs.declared.scale.Reading.{Reading}
 use Rattle.stored.specs.declared.columns.Column.{Column}
 use Rattle.stored.specs.declared.columns.Column.TheVariants.{Values, Weights}
-use Rattle.stored.specs.Forms.{cell_of, column_bytes, encoded}
+use Rattle.stored.specs.Forms.{cell_of, column_bytes, decoded, encoded, storable}
 use Rattle.stored.specs.Words.{split}
-use Rattle.stored.proofs.Trips.{length_column}
+use Rattle.stored.proofs.Trips.{length_column, length_encoded, reads_back}
 
 column_more :
     (column : Column) (rs : List Reading) (i : ℕ) (d : Reading) → i < length rs
@@ -28,22 +30,26 @@ column_laid column rs out cur at i d h room so_far =
     ∙ put_then out (2 * at) (column_bytes column (take i rs)) (split (cell_of column (get_or rs i d))) (2 * (at + i)) (omega arith) (omega arith)
     ∙ ap (λ bs. put_from (2 * at) bs out) (column_more column rs i d h)
 
--- the two sizes, the values and the weights, laid one behind the other, are the stored bytes
-pub whole_laid :
-    (rs : List Reading) (n : ℕ) (out one two three four : List ℕ) → n ≡ length rs → 4 + 4 * n ≤ length out
-    → one ≡ put_from 0 (split n) out → two ≡ put_from 2 (split n) one
-    → three ≡ put_from 4 (column_bytes Values rs) two → four ≡ put_from (2 * (2 + n)) (column_bytes Weights rs) three
-    → four ≡ put_from 0 (encoded rs) out
-whole_laid rs n out one two three four counted room a b c d =
-    let values = column_bytes Values rs in
-    let weights = column_bytes Weights rs in
-    let vl = length_column Values rs in
-    let wl = length_column Weights rs in
-    let two_is : two ≡ put_from 0 (split n ++ split n) out =
-    b ∙ ap (put_from 2 (split n)) a ∙ put_then out 0 (split n) (split n) 2 refl (omega arith) in
-    let three_is : three ≡ put_from 0 ((split n ++ split n) ++ values) out =
-    c ∙ ap (put_from 4 values) two_is ∙ put_then out 0 (split n ++ split n) values 4 refl (omega arith) in
-    let four_is : four ≡ put_from 0 (((split n ++ split n) ++ values) ++ weights) out =
-    d ∙ ap (put_from (2 * (2 + n)) weights) three_is
-    ∙ put_then out 0 ((split n ++ split n) ++ values) weights (2 * (2 + n)) (omega (arith, length-append (split n ++ split n) values)) (omega arith) in
-    four_is ∙ ap (λ k. put_from 0 (split k ++ (split k ++ (values ++ weights))) out) counted
+module _ (rs : List Reading) (n : ℕ) (out one two three four : List ℕ) (counted : n ≡ length rs) (room : 4 + 4 * n ≤ length out) (a : one ≡ put_from 0 (split n) out) (b : two ≡ put_from 2 (split n) one) (c : three ≡ put_from 4 (column_bytes Values rs) two) (d : four ≡ put_from (2 * (2 + n)) (column_bytes Weights rs) three) where
+  -- the two sizes, the values and the weights, laid one behind the other, are the stored bytes
+  pub whole_laid : four ≡ put_from 0 (encoded rs) out
+  whole_laid =
+      let sizes = split n ++ split n in
+      let values = column_bytes Values rs in
+      let weights = column_bytes Weights rs in
+      let vl = length_column Values rs in
+      let wl = length_column Weights rs in
+      let two_is = put_then out 0 (split n) (split n) 2 refl (omega arith) in
+      let three_is = put_then out 0 sizes values 4 refl (omega arith) in
+      let four_is = put_then out 0 (sizes ++ values) weights (2 * (2 + n)) (omega (arith, length-append sizes values)) (omega arith) in
+      cc
+
+  -- and they read back
+  pub whole_back : Scaled rs → n ≤ limit → decoded (take (4 + 4 * n) four) ≡ Ok rs
+  whole_back all few =
+      reads_back _ rs (ap (take (4 + 4 * n)) whole_laid ∙ take_put (encoded rs) out (4 + 4 * n) (omega (arith, length_encoded rs)) room) all (omega arith)
+
+-- and where there is no room for all of it, nothing is laid
+pub none_laid : (rs : List Reading) (out : List ℕ) → length out < 4 + 4 * length rs → filled (storable rs) out ≡ out
+none_laid rs out h =
+    cond_both (leb (length rs) limit) _ _ (λ d. filled d out ≡ out) (λ few. put_over 0 (encoded rs) out (omega (arith, length_encoded rs))) (λ many. refl)

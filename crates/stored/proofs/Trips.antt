@@ -81,12 +81,12 @@ length_encoded rs =
     omega (arith, length-append (column_bytes Values rs) (column_bytes Weights rs), length_column Values rs, length_column Weights rs)
 
 -- what is written reads back
-pub reads_back : (rs : List Reading) → Scaled rs → length rs ≤ limit → decoded (encoded rs) ≡ Ok rs
-reads_back rs all few =
+pub reads_back : (bs : List ℕ) (rs : List Reading) → bs ≡ encoded rs → Scaled rs → length rs ≤ limit → decoded bs ≡ Ok rs
+reads_back bs rs e all few =
     let rest = column_bytes Values rs ++ column_bytes Weights rs in
     let n = word_split (length rs) (omega arith) in
     let long : length rest ≡ 4 * length rs = omega (arith, length_encoded rs) in
-    ap (λ k. sized k k rest) n ∙ sized_is (length rs) (length rs) rest refl few long ∙ ap (all_admitted 1) (rows_back rs all) ∙ all_admits 1 rs all
+    ap decoded e ∙ ap (λ k. sized k k rest) n ∙ sized_is (length rs) (length rs) rest refl few long ∙ ap (all_admitted 1) (rows_back rs all) ∙ all_admits 1 rs all
 
 values_of_paired : (ns ws : List ℕ) → length ns ≡ length ws → Numbers ns → map (cell_of Values) (paired (map from_complement ns) ws) ≡ ns
 values_of_paired [] ws e all = refl

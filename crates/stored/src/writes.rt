@@ -9,6 +9,7 @@ use crate::words::put_word;
 use reading::{LIMIT, Readings, Refusal};
 
 // Writes one column of the readings, from the word at an index on, and by index as `put_word` says.
+#[tactic(auto, using(crate::proofs::Lays::column_laid))]
 fn put_column(list: Readings<'_>, column: Column, into: &mut [u8], at: usize)
     requires { 2 * (at + length (rows_of list)) ≤ length into.old }
     ensures { into.new ≡ put_from (2 * at) (column_bytes column (rows_of list.entry)) into.old }
@@ -19,6 +20,7 @@ fn put_column(list: Readings<'_>, column: Column, into: &mut [u8], at: usize)
 }
 
 // Writes readings as stored bytes to the front of a slice, and answers how many bytes.
+#[tactic(auto, using(crate::proofs::Lays::whole_laid, crate::proofs::Lays::none_laid, crate::proofs::Trips::length_encoded))]
 pub fn write(list: Readings<'_>, into: &mut [u8]) -> Result<usize, Refusal>
     ensures value { result ≡ delivered (storable (rows_of list.entry)) into.old }
     ensures after { into.new ≡ filled (storable (rows_of list.entry)) into.old }
