@@ -1,9 +1,8 @@
 -- When readings are all admitted, and which refusal comes otherwise.
-use Rattle.std.proofs.Common.{◌≡◌, ℕ, zero, suc, ◌+◌, ◌<◌, Bool, true, false, cond, List, [], ◌∷◌, length, get_or, take, Ok, Err, Result, sym, refl, ap, ◌∙◌, add-zero, arith}
-use Rattle.std.proofs.lemmas.Bool.{and_from, and_parts, cond-true}
+use Rattle.std.proofs.Common.{◌≡◌, ℕ, ◌+◌, Bool, true, false, cond, List, [], ◌∷◌, Ok, Err, Result, sym, refl, ap, ◌∙◌}
+use Rattle.std.proofs.lemmas.Bool.{and_parts, cond-true}
 use Rattle.std.proofs.lemmas.List.Elements.{All-head, All-tail}
 use Rattle.reading.specs.declared.refusals.Refusal.{Refusal}
-use Rattle.reading.specs.declared.refusals.Refusal.TheVariants.{ValueOffScale, WeightOffScale}
 use Rattle.reading.specs.declared.scale.Reading.{Reading}
 use Rattle.reading.specs.Results.{then}
 use Rattle.reading.specs.Scale.{admitted, is_level, is_weight, OnScale, Scaled}
@@ -14,11 +13,6 @@ use Rattle.stored.specs.Forms.{all_admitted}
 pub passed : {X E : Type 0} (b : Bool) (r : Result X E) (e : E) (x : X) → cond b r (Err e) ≡ Ok x → (b ≡ true) × (r ≡ Ok x)
 passed true r e x h = (refl, h)
 passed false r e x h = absurd cc
-
-pub scaled_from_admitted : (r x : Reading) (p : ℕ) → Ok x ≡ admitted r p → OnScale r
-scaled_from_admitted r x p h =
-    let level = passed (is_level r.value) (cond (is_weight r.weight) (Ok r) (Err (WeightOffScale p))) (ValueOffScale p) x (sym h) in
-    and_from (is_level r.value) (is_weight r.weight) level.0 (passed (is_weight r.weight) (Ok r) (WeightOffScale p) x level.1).0
 
 -- a reading on the scale is admitted anywhere
 admits : (r : Reading) (p : ℕ) → OnScale r → admitted r p ≡ Ok r
@@ -35,18 +29,6 @@ all_admits p [] all = refl
 all_admits p (r ∷ rs) all =
     on_admitted p r rs (All-head OnScale r rs all) ∙ ap (λ q. then q (λ xs. Ok (r ∷ xs))) (all_admits (p + 1) rs (All-tail OnScale r rs all))
 
--- the first reading that is refused refuses the list
-pub refused_first :
-    (p : ℕ) (rs : List Reading) (i : ℕ) (d : Reading) (e : Refusal) → i < length rs → Scaled (take i rs) → Err e ≡ admitted (get_or rs i d) (p + i)
-    → Err e ≡ all_admitted p rs
-refused_first p [] i d e within all h = absurd (omega arith)
-refused_first p (r ∷ rs) zero d e within all h =
-    ap (λ q. then q (λ _. then (all_admitted (p + 1) rs) (λ xs. Ok (r ∷ xs)))) (h ∙ ap (admitted r) (add-zero p))
-refused_first p (r ∷ rs) (suc i) d e within all h =
-    let next : p + suc i ≡ p + 1 + i = omega arith in
-    let rest = refused_first (p + 1) rs i d e (omega arith) (All-tail OnScale r (take i rs) all) (h ∙ ap (admitted (get_or rs i d)) next) in
-    ap (λ q. then q (λ xs. Ok (r ∷ xs))) rest ∙ sym (on_admitted p r rs (All-head OnScale r (take i rs) all))
-
 -- readings that are all admitted are the readings that came
 pub all_admitted_same : (p : ℕ) (rs xs : List Reading) → all_admitted p rs ≡ Ok xs → xs ≡ rs
 all_admitted_same p [] xs h = cc
@@ -56,3 +38,11 @@ all_admitted_same p (r ∷ rs) xs h =
     let e = all_admitted_same (p + 1) rs inner.0 inner.1 in
     let k : r ∷ inner.0 ≡ xs = let w = inner.2 in cc in
     sym k ∙ ap (λ ys. r ∷ ys) e
+
+-- and so what was asked again of all is what was asked of all
+asked : (p : ℕ) (rs : List Reading) (q : Result (List Reading) Refusal) → all_admitted p rs ≡ q → then q (λ _. Ok rs) ≡ q
+asked p rs (Ok xs) h = ap Ok (sym (all_admitted_same p rs xs h))
+asked p rs (Err e) h = refl
+
+pub all_admitted_whole : (p : ℕ) (rs : List Reading) → then (all_admitted p rs) (λ _. Ok rs) ≡ all_admitted p rs
+all_admitted_whole p rs = asked p rs (all_admitted p rs) refl

@@ -56,6 +56,7 @@ impl<'a> Table<'a> {
     }
 
     // This table, if each row is on the scale; else what is wrong with the first that is not.
+    #[tactic(auto, using(crate::proofs::Rows::rows_none, crate::proofs::Admits::all_admitted_whole))]
     fn admitted(self) -> Result<Table<'a>, Refusal>
         ensures { then result (λ t. Ok (table_rows t)) ≡ all_admitted 1 (table_rows self.entry) }
     {
@@ -81,6 +82,7 @@ impl<'a> Table<'a> {
     }
 
     // Copies the rows to the front of a list. The walk is that of `admitted`, but it writes.
+    #[tactic(auto, using(crate::proofs::Rows::rows_none, reading::proofs::Puts::put_none))]
     pub(crate) fn fill(self, into: &mut [Reading])
         requires { length (table_rows self) ≤ length into.old }
         ensures { into.new ≡ put_from 0 (table_rows self.entry) into.old }
