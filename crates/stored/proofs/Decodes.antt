@@ -1,19 +1,17 @@
 -- What stored bytes decode to: the rows behind the sizes, and no two stored profiles the same.
-use Rattle.std.proofs.Common.{◌≡◌, ℕ, suc, ◌+◌, ◌*◌, ◌/◌, ◌<◌, ◌≤◌, eqb, leb, List, [], ◌∷◌, ◌++◌, cond, length, get_or, take, drop, IfOk, Ok, Err, Result, Fits, w8, sym, ap, ◌∙◌, arith}
+use Rattle.std.proofs.Common.{◌≡◌, ℕ, suc, ◌+◌, ◌*◌, ◌/◌, ◌<◌, ◌≤◌, List, [], ◌∷◌, length, get_or, take, drop, IfOk, Ok, Err, Result, Fits, w8, sym, ap, ◌∙◌, arith}
 use Rattle.std.specs.Simd.{first_chunks}
-use Rattle.std.proofs.lemmas.Bool.{eqb-true}
+use Rattle.std.proofs.lemmas.Bool.Decides.{nat_tests}
 use Rattle.std.proofs.lemmas.List.Elements.{All-from_get_or}
 use Rattle.reading.specs.declared.refusals.Refusal.{Refusal}
-use Rattle.reading.specs.declared.refusals.Refusal.TheVariants.{WrongLength, SizesDiffer, TooMany}
 use Rattle.reading.specs.declared.scale.Reading.{Reading}
 use Rattle.reading.specs.Results.{then}
 use Rattle.reading.specs.Scale.{limit}
 use Rattle.reading.proofs.Verdicts.{then_granted}
-use Rattle.stored.specs.declared.columns.Column.TheVariants.{Values, Weights}
-use Rattle.stored.specs.Forms.{stored_rows, all_admitted, sized, decoded, column_bytes, encoded}
+use Rattle.stored.specs.Forms.{stored_rows, all_admitted, decoded, encoded}
 use Rattle.stored.specs.Rows.{rows_from}
-use Rattle.stored.specs.Words.{word, pair_number, split}
-use Rattle.stored.proofs.Admits.{all_admitted_same, passed}
+use Rattle.stored.specs.Words.{word, pair_number}
+use Rattle.stored.proofs.Admits.{all_admitted_same}
 use Rattle.stored.proofs.Pairs.{Bytes, split_word}
 use Rattle.stored.proofs.Rows.{rows_stored}
 use Rattle.stored.proofs.Trips.{rows_exact, sized_is}
@@ -37,17 +35,6 @@ table_decoded (a ∷ b ∷ c ∷ d ∷ rest) n pairs vs ws p first second few lo
     let whole = sized_is n (word c d) rest k few (omega arith) in
     cc
 
--- what is granted behind two sizes
-sized_granted :
-    (m n : ℕ) (rest : List ℕ) (rs : List Reading) → sized m n rest ≡ Ok rs
-    → (m ≡ n) × (length rest ≡ 4 * m) × (rs ≡ stored_rows m rest)
-sized_granted m n rest rs h =
-    let last = cond (eqb (length rest) (4 * m)) (all_admitted 1 (stored_rows m rest)) (Err (WrongLength (4 + length rest))) in
-    let first = passed (eqb m n) (cond (leb m limit) last (Err (TooMany m))) SizesDiffer rs h in
-    let second = passed (leb m limit) last (TooMany m) rs first.1 in
-    let third = passed (eqb (length rest) (4 * m)) (all_admitted 1 (stored_rows m rest)) (WrongLength (4 + length rest)) rs second.1 in
-    (eqb-true m n first.0, eqb-true (length rest) (4 * m) third.0, all_admitted_same 1 (stored_rows m rest) rs third.1)
-
 -- readings that bytes decode to are the rows behind the sizes, and are encoded as those very bytes
 decoded_granted :
     (bs : List ℕ) (rs : List Reading) → decoded bs ≡ Ok rs
@@ -58,19 +45,17 @@ decoded_granted (a ∷ b ∷ []) rs h = absurd cc
 decoded_granted (a ∷ b ∷ c ∷ []) rs h = absurd cc
 decoded_granted (a ∷ b ∷ c ∷ d ∷ rest) rs h =
     let n = word a b in
-    let granted = sized_granted n (word c d) rest rs h in
+    let same = all_admitted_same 1 (stored_rows n rest) rs in
+    let granted : (n ≡ word c d) × (length rest ≡ 4 * n) × (rs ≡ stored_rows n rest) = grind (arith, nat_tests) in
     let exact = rows_exact n rest granted.1 in
-    let counted : length rs ≡ n = ap length granted.2 ∙ exact.0 in (
-      granted.2 ∙ ap (λ k. stored_rows k rest) (sym counted),
+    let counted : length rs ≡ n = cc in (
+      cc,
       omega (arith, granted.1),
       λ all.
-          let first : split (length rs) ≡ a ∷ b ∷ [] = ap split counted ∙ split_word a b (all 0 0 (omega arith)) (all 1 0 (omega arith)) in
-          let second : split (length rs) ≡ c ∷ d ∷ [] = ap split (counted ∙ granted.0) ∙ split_word c d (all 2 0 (omega arith)) (all 3 0 (omega arith)) in
-          let columns : column_bytes Values rs ++ column_bytes Weights rs ≡ rest =
-          ap (λ xs. column_bytes Values xs ++ column_bytes Weights xs) granted.2 ∙ exact.1 (λ k e i. all (suc (suc (suc (suc k)))) e (omega arith)) in
-          ap (λ xs. xs ++ (split (length rs) ++ (column_bytes Values rs ++ column_bytes Weights rs))) first
-          ∙ ap (λ xs. a ∷ b ∷ (xs ++ (column_bytes Values rs ++ column_bytes Weights rs))) second
-          ∙ ap (λ xs. a ∷ b ∷ c ∷ d ∷ xs) columns,
+          let first = split_word a b (all 0 0 (omega arith)) (all 1 0 (omega arith)) in
+          let second = split_word c d (all 2 0 (omega arith)) (all 3 0 (omega arith)) in
+          let columns = exact.1 (λ k e i. all (suc (suc (suc (suc k)))) e (omega arith)) in
+          cc,
     )
 
 -- stored bytes, each as a slice of bytes has it, are what the readings that they hold are encoded as
@@ -84,6 +69,5 @@ pub counted_rows :
 counted_rows bs (Err e) h = tt
 counted_rows bs (Ok n) h =
     let found = then_granted (decoded bs) (λ rs. Ok (length rs)) n (sym h) in
-    let e : length found.0 ≡ n = let w = found.2 in cc in
     let parts = decoded_granted bs found.0 found.1 in
-    (found.1 ∙ ap Ok (parts.0 ∙ ap (λ k. stored_rows k (drop 4 bs)) e), parts.1 ∙ ap (λ k. 4 + 4 * k) e)
+    (cc, cc)

@@ -1,9 +1,8 @@
 -- Numbers as two bytes: there and back, one and many.
-use Rattle.std.proofs.Common.{◌≡◌, ℕ, zero, suc, ◌+◌, ◌-◌, ◌*◌, ◌/◌, ◌%◌, ◌<◌, ltb, List, [], ◌∷◌, ◌++◌, map, length, pos, negsuc, refl, ap, ◌∙◌, mod-eq_of_lt, zero-add, arith}
-use native.Mathlib.Nat.{add-mul-div_right, add-mul-mod_self_right, div-eq_of_lt}
+use Rattle.std.proofs.Common.{◌≡◌, ℕ, zero, suc, ◌+◌, ◌*◌, ◌/◌, ◌%◌, ◌<◌, List, [], ◌∷◌, map, length, refl, ap, arith}
 use Rattle.std.specs.List.{All, flat_map}
 use Rattle.std.specs.Simd.{first_chunks}
-use Rattle.std.proofs.lemmas.Bool.{cond-true, cond-false, cond_both, lt-ltb, le-ltb}
+use Rattle.std.proofs.lemmas.Bool.Decides.{nat_tests}
 use Rattle.std.proofs.lemmas.List.Elements.{All-cons, All-nil, All-tail}
 use Rattle.stored.specs.Words.{word, pair_number, split, words, from_complement, to_complement}
 
@@ -19,22 +18,12 @@ word_split n h = omega arith
 
 pub split_word : (a b : ℕ) → a < 256 → b < 256 → split (word a b) ≡ a ∷ b ∷ []
 split_word a b p q =
-    let low : (a + b * 256) % 256 ≡ a = add-mul-mod_self_right a b 256 ∙ mod-eq_of_lt p in
-    let whole : (a + b * 256) / 256 ≡ b = add-mul-div_right a b {z = 256} (omega arith) ∙ ap (λ x. x + b) (div-eq_of_lt p) ∙ zero-add b in
-    let high : (a + b * 256) / 256 % 256 ≡ b = ap (λ x. x % 256) whole ∙ mod-eq_of_lt q in
+    let low : (a + b * 256) % 256 ≡ a = omega arith in
+    let high : (a + b * 256) / 256 % 256 ≡ b = omega arith in
     rw (low, high)
 
 pub to_from_complement : (n : ℕ) → n < 65536 → to_complement (from_complement n) ≡ n
-to_from_complement n h =
-    cond_both (ltb n 32768) (pos n) (negsuc (65535 - n)) (λ z. to_complement z ≡ n) (λ e. refl) (λ e. omega arith)
-
-pub from_to_complement_pos : (n : ℕ) → n < 32768 → from_complement (to_complement (pos n)) ≡ pos n
-from_to_complement_pos n h = cond-true (ltb n 32768) _ _ (lt-ltb n 32768 h)
-
-pub from_to_complement_neg : (n : ℕ) → n < 32768 → from_complement (to_complement (negsuc n)) ≡ negsuc n
-from_to_complement_neg n h =
-    let e : 65535 - (65535 - n) ≡ n = omega arith in
-    cond-false (ltb (65535 - n) 32768) _ _ (le-ltb (65535 - n) 32768 (omega arith)) ∙ ap negsuc e
+to_from_complement n h = grind (arith, nat_tests)
 
 -- as many numbers as pairs of bytes
 pub length_words : (bs : List ℕ) (n : ℕ) → length bs ≡ 2 * n → length (words bs) ≡ n
@@ -57,18 +46,17 @@ split_words [] n e all = refl
 split_words (a ∷ []) n e all = absurd (omega arith)
 split_words (a ∷ b ∷ bs) zero e all = absurd (omega arith)
 split_words (a ∷ b ∷ bs) (suc n) e all =
-    ap (λ xs. xs ++ flat_map split (words bs)) (split_word a b (all 0 0 (omega arith)) (all 1 0 (omega arith)))
-    ∙ ap (λ xs. a ∷ b ∷ xs) (split_words bs n (omega arith) (λ k d h. all (suc (suc k)) d (omega arith)))
+    let here = split_word a b (all 0 0 (omega arith)) (all 1 0 (omega arith)) in
+    let rest = split_words bs n (omega arith) (λ k d h. all (suc (suc k)) d (omega arith)) in
+    cc
 
 -- numbers below 65,536, taken apart and put together
 pub words_split : (ns : List ℕ) → Numbers ns → words (flat_map split ns) ≡ ns
 words_split [] all = refl
 words_split (n ∷ ns) all =
-    ap (λ x. x ∷ words (flat_map split ns)) (word_split n (all 0 0 (omega arith))) ∙ ap (λ xs. n ∷ xs) (words_split ns (All-tail (λ x. x < 65536) n ns all))
-
-pub length_split : (ns : List ℕ) → length (flat_map split ns) ≡ 2 * length ns
-length_split [] = refl
-length_split (n ∷ ns) = let go = length_split ns in omega arith
+    let here = word_split n (all 0 0 (omega arith)) in
+    let rest = words_split ns (All-tail (λ x. x < 65536) n ns all) in
+    cc
 
 pub words_below : (bs : List ℕ) → Bytes bs → Numbers (words bs)
 words_below [] all = All-nil (λ x. x < 65536)

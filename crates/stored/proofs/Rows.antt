@@ -1,5 +1,5 @@
 -- The rows of a table: how many, which stands where, and that they are those of the stored bytes.
-use Rattle.std.proofs.Common.{◌≡◌, ℕ, ◌*◌, List, [], ◌∷◌, Iter, map, length, min, take, drop, sym, refl, ap, ◌∙◌, arith}
+use Rattle.std.proofs.Common.{◌≡◌, ℕ, ◌*◌, List, [], ◌∷◌, Iter, map, length, min, take, drop, refl, ◌∙◌, arith}
 use Rattle.std.specs.List.{zip}
 use Rattle.std.specs.Slice.Iter.{iter_rest}
 use Rattle.std.specs.declared.iter.Enumerate.{Enumerate}
@@ -9,7 +9,7 @@ use Rattle.std.proofs.lemmas.List.{drop-map, length-map, take-map}
 use Rattle.std.proofs.lemmas.Slice.Zip.{length-zip}
 use Rattle.reading.specs.declared.scale.Reading.{Reading}
 use Rattle.stored.specs.Forms.{paired, stored_rows}
-use Rattle.stored.specs.Rows.{row_from, rows_from}
+use Rattle.stored.specs.Rows.{rows_from}
 use Rattle.stored.specs.Words.{pair_number, from_complement}
 use Rattle.stored.proofs.Pairs.{words_chunks}
 use Rattle.stored.proofs.Stored.{stored_words}
@@ -29,7 +29,7 @@ ahead w = rows_from (iter_rest w.iter.a) (iter_rest w.iter.b)
 rows_paired : (vs ws : List (List ℕ)) → paired (map from_complement (map pair_number vs)) (map pair_number ws) ≡ rows_from vs ws
 rows_paired [] ws = refl
 rows_paired (v ∷ vs) [] = refl
-rows_paired (v ∷ vs) (w ∷ ws) = ap (λ rs. row_from v w ∷ rs) (rows_paired vs ws)
+rows_paired (v ∷ vs) (w ∷ ws) = let rest = rows_paired vs ws in cc
 
 -- the rows of n pairs of bytes and of the n behind them are those that are stored
 pub rows_stored :
@@ -37,8 +37,9 @@ pub rows_stored :
     → stored_rows n rest ≡ rows_from (take n (first_chunks 2 (2 * n) rest)) (drop n (first_chunks 2 (2 * n) rest))
 rows_stored n rest long =
     let cells = first_chunks 2 (2 * n) rest in
-    stored_words n rest
-    ∙ ap (λ ns. paired (map from_complement (take n ns)) (drop n ns)) (sym (words_chunks rest (2 * n) (omega arith)))
-    ∙ ap (λ ns. paired (map from_complement ns) (drop n (map pair_number cells))) (take-map pair_number n cells)
-    ∙ ap (λ ns. paired (map from_complement (map pair_number (take n cells))) ns) (drop-map pair_number n cells)
-    ∙ rows_paired (take n cells) (drop n cells)
+    let stored = stored_words n rest in
+    let numbers = words_chunks rest (2 * n) (omega arith) in
+    let front = take-map pair_number n cells in
+    let back = drop-map pair_number n cells in
+    let rows = rows_paired (take n cells) (drop n cells) in
+    cc
