@@ -1,5 +1,5 @@
 -- The stored form as it is laid down: a column word by word, and the whole part by part.
-use Rattle.std.proofs.Common.{◌≡◌, ℕ, ◌+◌, ◌*◌, ◌<◌, ◌≤◌, leb, List, [], ◌++◌, length, get_or, take, Ok, sym, refl, ap, ◌∙◌, arith}
+use Rattle.std.proofs.Common.{◌≡◌, ℕ, ◌+◌, ◌*◌, ◌<◌, ◌≤◌, leb, List, [], ◌++◌, length, get_or, take, Ok, refl, ap, ◌∙◌, arith}
 use Rattle.std.proofs.lemmas.Bool.{cond_both}
 use Rattle.std.proofs.lemmas.List.{flat_map_more, length-append, length-take, take_more}
 use Rattle.reading.proofs.Puts.{put_over, put_then, take_put}
@@ -12,23 +12,19 @@ use Rattle.stored.specs.Forms.{cell_of, column_bytes, decoded, encoded, storable
 use Rattle.stored.specs.Words.{split}
 use Rattle.stored.proofs.Trips.{length_column, length_encoded, reads_back}
 
-column_more :
-    (column : Column) (rs : List Reading) (i : ℕ) (d : Reading) → i < length rs
-    → column_bytes column (take i rs) ++ split (cell_of column (get_or rs i d)) ≡ column_bytes column (take (i + 1) rs)
-column_more column rs i d h =
-    flat_map_more (λ r. split (cell_of column r)) [] (take i rs) (get_or rs i d) ∙ ap (column_bytes column) (sym (take_more rs i d h))
-
 -- one word more of a column, laid behind those that are there
 pub column_laid :
     (column : Column) (rs : List Reading) (out cur : List ℕ) (at i : ℕ) (d : Reading) → i < length rs → 2 * (at + length rs) ≤ length out
     → cur ≡ put_from (2 * at) (column_bytes column (take i rs)) out
     → put_from (2 * (at + i)) (split (cell_of column (get_or rs i d))) cur ≡ put_from (2 * at) (column_bytes column (take (i + 1) rs)) out
 column_laid column rs out cur at i d h room so_far =
+    let cell = split (cell_of column (get_or rs i d)) in
     let long = length_column column (take i rs) in
     let k = length-take i rs in
-    ap (put_from (2 * (at + i)) (split (cell_of column (get_or rs i d)))) so_far
-    ∙ put_then out (2 * at) (column_bytes column (take i rs)) (split (cell_of column (get_or rs i d))) (2 * (at + i)) (omega arith) (omega arith)
-    ∙ ap (λ bs. put_from (2 * at) bs out) (column_more column rs i d h)
+    let laid = put_then out (2 * at) (column_bytes column (take i rs)) cell (2 * (at + i)) (omega arith) (omega arith) in
+    let more = flat_map_more (λ r. split (cell_of column r)) [] (take i rs) (get_or rs i d) in
+    let next = take_more rs i d h in
+    cc
 
 module _ (rs : List Reading) (n : ℕ) (out one two three four : List ℕ) (counted : n ≡ length rs) (room : 4 + 4 * n ≤ length out) (a : one ≡ put_from 0 (split n) out) (b : two ≡ put_from 2 (split n) one) (c : three ≡ put_from 4 (column_bytes Values rs) two) (d : four ≡ put_from (2 * (2 + n)) (column_bytes Weights rs) three) where
   -- the two sizes, the values and the weights, laid one behind the other, are the stored bytes

@@ -1,5 +1,5 @@
 -- Numbers as two bytes: there and back, one and many.
-use Rattle.std.proofs.Common.{◌≡◌, ℕ, zero, suc, ◌+◌, ◌*◌, ◌/◌, ◌%◌, ◌<◌, List, [], ◌∷◌, map, length, refl, ap, arith}
+use Rattle.std.proofs.Common.{◌≡◌, ℕ, suc, ◌+◌, ◌*◌, ◌/◌, ◌%◌, ◌<◌, List, [], ◌∷◌, map, length, refl, arith}
 use Rattle.std.specs.List.{All, flat_map}
 use Rattle.std.specs.Simd.{first_chunks}
 use Rattle.std.proofs.lemmas.Bool.Decides.{nat_tests}
@@ -26,28 +26,26 @@ pub to_from_complement : (n : ℕ) → n < 65536 → to_complement (from_complem
 to_from_complement n h = grind (arith, nat_tests)
 
 -- as many numbers as pairs of bytes
-pub length_words : (bs : List ℕ) (n : ℕ) → length bs ≡ 2 * n → length (words bs) ≡ n
-length_words [] n e = omega arith
-length_words (a ∷ []) n e = absurd (omega arith)
-length_words (a ∷ b ∷ bs) zero e = absurd (omega arith)
-length_words (a ∷ b ∷ bs) (suc n) e = ap suc (length_words bs n (omega arith))
+pub length_words : (bs : List ℕ) → length (words bs) ≡ length bs / 2
+length_words [] = refl
+length_words (a ∷ []) = refl
+length_words (a ∷ b ∷ bs) = let rest = length_words bs in omega arith
 
 -- the library's chunks of two, read as numbers
-pub words_chunks : (bs : List ℕ) (n : ℕ) → length bs ≡ 2 * n → map pair_number (first_chunks 2 n bs) ≡ words bs
-words_chunks [] zero e = refl
-words_chunks [] (suc n) e = absurd (omega arith)
-words_chunks (a ∷ []) n e = absurd (omega arith)
-words_chunks (a ∷ b ∷ bs) zero e = absurd (omega arith)
-words_chunks (a ∷ b ∷ bs) (suc n) e = ap (λ ns. word a b ∷ ns) (words_chunks bs n (omega arith))
+pub words_chunks : (bs : List ℕ) → map pair_number (first_chunks 2 (length bs / 2) bs) ≡ words bs
+words_chunks [] = refl
+words_chunks (a ∷ []) = refl
+words_chunks (a ∷ b ∷ bs) =
+    let half : length (a ∷ b ∷ bs) / 2 ≡ suc (length bs / 2) = omega arith in
+    rw (half, words_chunks bs)
 
 -- bytes in pairs, put together and taken apart
-pub split_words : (bs : List ℕ) (n : ℕ) → length bs ≡ 2 * n → Bytes bs → flat_map split (words bs) ≡ bs
-split_words [] n e all = refl
-split_words (a ∷ []) n e all = absurd (omega arith)
-split_words (a ∷ b ∷ bs) zero e all = absurd (omega arith)
-split_words (a ∷ b ∷ bs) (suc n) e all =
+pub split_words : (bs : List ℕ) → length bs % 2 ≡ 0 → Bytes bs → flat_map split (words bs) ≡ bs
+split_words [] even all = refl
+split_words (a ∷ []) even all = absurd (omega arith)
+split_words (a ∷ b ∷ bs) even all =
     let here = split_word a b (all 0 0 (omega arith)) (all 1 0 (omega arith)) in
-    let rest = split_words bs n (omega arith) (λ k d h. all (suc (suc k)) d (omega arith)) in
+    let rest = split_words bs (omega arith) (λ k d h. all (suc (suc k)) d (omega arith)) in
     cc
 
 -- numbers below 65,536, taken apart and put together

@@ -1,5 +1,5 @@
 -- The rows of a table: how many, which stands where, and that they are those of the stored bytes.
-use Rattle.std.proofs.Common.{◌≡◌, ℕ, ◌*◌, List, [], ◌∷◌, Iter, map, length, min, take, drop, refl, ◌∙◌, arith}
+use Rattle.std.proofs.Common.{◌≡◌, ℕ, ◌*◌, ◌/◌, List, [], ◌∷◌, Iter, map, length, min, take, drop, refl, ◌∙◌, arith}
 use Rattle.std.specs.List.{zip}
 use Rattle.std.specs.Slice.Iter.{iter_rest}
 use Rattle.std.specs.declared.iter.Enumerate.{Enumerate}
@@ -38,7 +38,8 @@ pub rows_stored :
 rows_stored n rest long =
     let cells = first_chunks 2 (2 * n) rest in
     let stored = stored_words n rest in
-    let numbers = words_chunks rest (2 * n) (omega arith) in
+    let half : length rest / 2 ≡ 2 * n = omega arith in
+    let numbers = words_chunks rest in
     let front = take-map pair_number n cells in
     let back = drop-map pair_number n cells in
     let rows = rows_paired (take n cells) (drop n cells) in

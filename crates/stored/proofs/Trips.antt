@@ -98,7 +98,7 @@ rows_exact n rest long =
     let front = take n (words rest) in
     let vs = map from_complement front in
     let ws = drop n (words rest) in
-    let k = length_words rest (2 * n) (omega arith) in
+    let k = length_words rest in
     let fl : length front ≡ n = simp length-take (omega arith) in
     let wl : length ws ≡ n = simp length-drop (omega arith) in
     let vl = length-map front from_complement in
@@ -110,6 +110,6 @@ rows_exact n rest long =
           let w = weights_of_paired vs ws (omega arith) in
           let cells = columns_split (paired vs ws) in
           let whole = take-append-drop n (words rest) in
-          let back = split_words rest (2 * n) (omega arith) all in
+          let back = split_words rest (omega arith) all in
           cc,
     )
