@@ -36,7 +36,7 @@ table_decoded (a ∷ b ∷ c ∷ d ∷ rest) n pairs vs ws p first second few lo
     cc
 
 -- readings that bytes decode to are the rows behind the sizes, and are encoded as those very bytes
-decoded_granted :
+pub decoded_granted :
     (bs : List ℕ) (rs : List Reading) → decoded bs ≡ Ok rs
     → (rs ≡ stored_rows (length rs) (drop 4 bs)) × (length bs ≡ 4 + 4 * length rs) × (Bytes bs → encoded rs ≡ bs)
 decoded_granted [] rs h = absurd cc
@@ -61,13 +61,3 @@ decoded_granted (a ∷ b ∷ c ∷ d ∷ rest) rs h =
 -- stored bytes, each as a slice of bytes has it, are what the readings that they hold are encoded as
 pub decoded_exact : (bs : List ℕ) → ((k : ℕ) → Fits w8 (get_or bs k 0)) → (rs : List Reading) → decoded bs ≡ Ok rs → encoded rs ≡ bs
 decoded_exact bs fits rs h = (decoded_granted bs rs h).2 (All-from_get_or (λ x. x < 256) bs 0 (λ k h. (fits k).fits))
-
--- what is counted is the rows behind the sizes
-pub counted_rows :
-    (bs : List ℕ) (r : Result ℕ Refusal) → r ≡ then (decoded bs) (λ rs. Ok (length rs))
-    → IfOk r (λ n. (decoded bs ≡ Ok (stored_rows n (drop 4 bs))) × (length bs ≡ 4 + 4 * n))
-counted_rows bs (Err e) h = tt
-counted_rows bs (Ok n) h =
-    let found = then_granted (decoded bs) (λ rs. Ok (length rs)) n (sym h) in
-    let parts = decoded_granted bs found.0 found.1 in
-    (cc, cc)

@@ -1,6 +1,6 @@
 -- The stored form as it is laid down: a column word by word, and the whole part by part.
 use Rattle.std.proofs.Common.{◌≡◌, ℕ, ◌+◌, ◌*◌, ◌<◌, ◌≤◌, leb, List, [], ◌++◌, length, get_or, take, Ok, refl, ap, ◌∙◌, arith}
-use Rattle.std.proofs.lemmas.Bool.{cond_both}
+use Rattle.std.proofs.lemmas.Bool.Decides.{nat_tests}
 use Rattle.std.proofs.lemmas.List.{flat_map_more, length-append, length-take, take_more}
 use Rattle.reading.proofs.Puts.{put_over, put_then, take_put}
 use Rattle.reading.specs.Lists.{filled, put_from}
@@ -47,5 +47,4 @@ module _ (rs : List Reading) (n : ℕ) (out one two three four : List ℕ) (coun
 
 -- and where there is no room for all of it, nothing is laid
 pub none_laid : (rs : List Reading) (out : List ℕ) → length out < 4 + 4 * length rs → filled (storable rs) out ≡ out
-none_laid rs out h =
-    cond_both (leb (length rs) limit) _ _ (λ d. filled d out ≡ out) (λ few. put_over 0 (encoded rs) out (omega (arith, length_encoded rs))) (λ many. refl)
+none_laid rs out h = grind (arith, nat_tests, put_over, length_encoded)

@@ -17,10 +17,7 @@ pub word_split : (n : ℕ) → n < 65536 → word (n % 256) (n / 256 % 256) ≡ 
 word_split n h = omega arith
 
 pub split_word : (a b : ℕ) → a < 256 → b < 256 → split (word a b) ≡ a ∷ b ∷ []
-split_word a b p q =
-    let low : (a + b * 256) % 256 ≡ a = omega arith in
-    let high : (a + b * 256) / 256 % 256 ≡ b = omega arith in
-    rw (low, high)
+split_word a b p q = grind arith
 
 pub to_from_complement : (n : ℕ) → n < 65536 → to_complement (from_complement n) ≡ n
 to_from_complement n h = grind (arith, nat_tests)

@@ -9,6 +9,7 @@ use crate::table::Table;
 use reading::{Reading, Refusal};
 
 // How many readings stored bytes hold; refused where the bytes are no stored profile.
+#[tactic(auto, using(crate::proofs::Decodes::decoded_granted, crate::proofs::Decodes::decoded_exact))]
 pub fn check(bytes: &[u8]) -> Result<usize, Refusal>
     ensures value { result ≡ then (decoded bytes.now) (λ rs. Ok (length rs)) }
     ensures rows { IfOk result (λ n. (decoded bytes.now ≡ Ok (stored_rows n (drop 4 bytes.now))) × (length bytes.now ≡ 4 + 4 * n)) }
