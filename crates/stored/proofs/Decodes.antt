@@ -1,13 +1,10 @@
 -- What stored bytes decode to: the rows behind the sizes, and no two stored profiles the same.
-use Rattle.std.proofs.Common.{◌≡◌, ℕ, suc, ◌+◌, ◌*◌, ◌/◌, ◌<◌, ◌≤◌, List, [], ◌∷◌, length, get_or, take, drop, IfOk, Ok, Err, Result, Fits, w8, sym, ap, ◌∙◌, arith}
+use Rattle.std.proofs.Common.{◌≡◌, ℕ, suc, ◌+◌, ◌*◌, ◌/◌, ◌<◌, ◌≤◌, List, [], ◌∷◌, length, get_or, take, drop, Ok, Fits, w8, ap, ◌∙◌, arith}
 use Rattle.std.specs.Simd.{first_chunks}
 use Rattle.std.proofs.lemmas.Bool.Decides.{nat_tests}
 use Rattle.std.proofs.lemmas.List.Elements.{All-from_get_or}
-use Rattle.reading.specs.declared.refusals.Refusal.{Refusal}
 use Rattle.reading.specs.declared.scale.Reading.{Reading}
-use Rattle.reading.specs.Results.{then}
 use Rattle.reading.specs.Scale.{limit}
-use Rattle.reading.proofs.Verdicts.{then_granted}
 use Rattle.stored.specs.Forms.{stored_rows, all_admitted, decoded, encoded}
 use Rattle.stored.specs.Rows.{rows_from}
 use Rattle.stored.specs.Words.{word, pair_number}

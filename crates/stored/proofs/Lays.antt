@@ -1,5 +1,5 @@
 -- The stored form as it is laid down: a column word by word, and the whole part by part.
-use Rattle.std.proofs.Common.{◌≡◌, ℕ, ◌+◌, ◌*◌, ◌<◌, ◌≤◌, leb, List, [], ◌++◌, length, get_or, take, Ok, refl, ap, ◌∙◌, arith}
+use Rattle.std.proofs.Common.{◌≡◌, ℕ, ◌+◌, ◌*◌, ◌<◌, ◌≤◌, List, [], ◌++◌, length, get_or, take, Ok, refl, ap, ◌∙◌, arith}
 use Rattle.std.proofs.lemmas.Bool.Decides.{nat_tests}
 use Rattle.std.proofs.lemmas.List.{flat_map_more, length-append, length-take, take_more}
 use Rattle.reading.proofs.Puts.{put_over, put_then, take_put}
@@ -26,7 +26,7 @@ column_laid column rs out cur at i d h room so_far =
     let next = take_more rs i d h in
     cc
 
-module _ (rs : List Reading) (n : ℕ) (out one two three four : List ℕ) (counted : n ≡ length rs) (room : 4 + 4 * n ≤ length out) (a : one ≡ put_from 0 (split n) out) (b : two ≡ put_from 2 (split n) one) (c : three ≡ put_from 4 (column_bytes Values rs) two) (d : four ≡ put_from (2 * (2 + n)) (column_bytes Weights rs) three) where
+module _ (rs : List Reading) (n : ℕ) (out one two three four : List ℕ) (counted : n ≡ length rs) (a : one ≡ put_from 0 (split n) out) (b : two ≡ put_from 2 (split n) one) (c : three ≡ put_from 4 (column_bytes Values rs) two) (d : four ≡ put_from (2 * (2 + n)) (column_bytes Weights rs) three) (room : 4 + 4 * n ≤ length out) where
   -- the two sizes, the values and the weights, laid one behind the other, are the stored bytes
   pub whole_laid : four ≡ put_from 0 (encoded rs) out
   whole_laid =

@@ -20,7 +20,7 @@ fn put_column(list: Readings<'_>, column: Column, into: &mut [u8], at: usize)
 }
 
 // Writes readings as stored bytes to the front of a slice, and answers how many bytes.
-#[tactic(auto, using(crate::proofs::Lays::whole_laid, crate::proofs::Lays::none_laid, crate::proofs::Trips::length_encoded))]
+#[tactic(auto, using(crate::proofs::Lays::whole_laid, crate::proofs::Lays::whole_back, crate::proofs::Lays::none_laid, crate::proofs::Trips::length_encoded))]
 pub fn write(list: Readings<'_>, into: &mut [u8]) -> Result<usize, Refusal>
     ensures value { result ≡ delivered (storable (rows_of list.entry)) into.old }
     ensures after { into.new ≡ filled (storable (rows_of list.entry)) into.old }
