@@ -1,7 +1,8 @@
 -- What stored bytes decode to: the rows behind the sizes, and no two stored profiles the same.
-use Rattle.std.proofs.Common.{◌≡◌, ℕ, suc, ◌+◌, ◌*◌, ◌/◌, ◌<◌, ◌≤◌, List, [], ◌∷◌, length, get_or, take, drop, Ok, Fits, w8, ap, ◌∙◌, arith}
+use Rattle.std.proofs.Common.{◌≡◌, ℕ, suc, ◌+◌, ◌-◌, ◌*◌, ◌/◌, ◌<◌, ◌≤◌, List, [], ◌∷◌, length, get_or, take, drop, Ok, Fits, w8, ap, ◌∙◌, arith}
 use Rattle.std.specs.Simd.{first_chunks}
 use Rattle.std.proofs.lemmas.Bool.Decides.{nat_tests}
+use Rattle.std.proofs.lemmas.List.{take_rest}
 use Rattle.std.proofs.lemmas.List.Elements.{All-from_get_or}
 use Rattle.reading.specs.declared.scale.Reading.{Reading}
 use Rattle.reading.specs.Scale.{limit}
@@ -13,21 +14,22 @@ use Rattle.stored.proofs.Pairs.{Bytes, split_word}
 use Rattle.stored.proofs.Rows.{rows_stored}
 use Rattle.stored.proofs.Trips.{rows_exact, sized_is}
 
--- bytes taken two by two: behind the pairs of the sizes, which agree, are the pairs of the table
+-- bytes taken two by two: behind the pairs of the sizes, which agree, are the pairs of the table, cut in two
 pub table_decoded :
-    (bs : List ℕ) (n : ℕ) (pairs vs ws : List (List ℕ)) → pairs ≡ first_chunks 2 (length bs / 2) bs
-    → n ≡ pair_number (get_or pairs 0 []) → n ≡ pair_number (get_or pairs 1 []) → n ≤ limit → length bs ≡ 4 + 4 * n
-    → vs ≡ take n (drop 2 pairs) → ws ≡ drop n (drop 2 pairs) → decoded bs ≡ all_admitted 1 (rows_from vs ws)
-table_decoded [] n pairs vs ws p first second few long front back = absurd (omega arith)
-table_decoded (a ∷ []) n pairs vs ws p first second few long front back = absurd (omega arith)
-table_decoded (a ∷ b ∷ []) n pairs vs ws p first second few long front back = absurd (omega arith)
-table_decoded (a ∷ b ∷ c ∷ []) n pairs vs ws p first second few long front back = absurd (omega arith)
-table_decoded (a ∷ b ∷ c ∷ d ∷ rest) n pairs vs ws p first second few long front back =
+    (bs : List ℕ) (n : ℕ) (pairs vs ws : List (List ℕ)) → vs ≡ take n (take (length pairs - 2) (drop 2 pairs)) → ws ≡ drop n (take (length pairs - 2) (drop 2 pairs))
+    → pairs ≡ first_chunks 2 (length bs / 2) bs → n ≡ pair_number (get_or pairs 0 []) → n ≡ pair_number (get_or pairs 1 [])
+    → length bs ≡ 4 + 4 * n → n ≤ limit → decoded bs ≡ all_admitted 1 (rows_from vs ws)
+table_decoded [] n pairs vs ws front back p first second long few = absurd (omega arith)
+table_decoded (a ∷ []) n pairs vs ws front back p first second long few = absurd (omega arith)
+table_decoded (a ∷ b ∷ []) n pairs vs ws front back p first second long few = absurd (omega arith)
+table_decoded (a ∷ b ∷ c ∷ []) n pairs vs ws front back p first second long few = absurd (omega arith)
+table_decoded (a ∷ b ∷ c ∷ d ∷ rest) n pairs vs ws front back p first second long few =
     let half : length (a ∷ b ∷ c ∷ d ∷ rest) / 2 ≡ suc (suc (2 * n)) = omega arith in
     let q : pairs ≡ (a ∷ b ∷ []) ∷ (c ∷ d ∷ []) ∷ first_chunks 2 (2 * n) rest = p ∙ ap (λ k. first_chunks 2 k (a ∷ b ∷ c ∷ d ∷ rest)) half in
     let m : n ≡ word a b = first ∙ ap (λ ps. pair_number (get_or ps 0 [])) q in
     let k : n ≡ word c d = second ∙ ap (λ ps. pair_number (get_or ps 1 [])) q in
     let cells : drop 2 pairs ≡ first_chunks 2 (2 * n) rest = ap (drop 2) q in
+    let all = take_rest pairs 2 in
     let rows = rows_stored n rest (omega arith) in
     let whole = sized_is n (word c d) rest k few (omega arith) in
     cc

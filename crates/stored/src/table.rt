@@ -31,6 +31,7 @@ impl<'a> Table<'a> {
     ghost use Rattle.stored.specs.Tables.{table_rows};
 
     // The table in stored bytes; refused where the sizes or the length are wrong.
+    #[tactic(auto, using(crate::proofs::Decodes::table_decoded))]
     fn sized(bytes: &'a [u8]) -> Result<Table<'a>, Refusal>
         ensures { decoded bytes.now ≡ then result (λ t. all_admitted 1 (table_rows t)) }
     {
