@@ -1,4 +1,4 @@
--- When readings are all admitted, and which refusal comes otherwise.
+-- When readings are all admitted, and that they are then the readings that came.
 use Rattle.std.proofs.Common.{◌≡◌, ℕ, ◌+◌, List, [], ◌∷◌, Ok, refl, arith}
 use Rattle.std.proofs.lemmas.Bool.Decides.{nat_tests}
 use Rattle.std.proofs.lemmas.List.Elements.{All-head, All-tail}
@@ -14,7 +14,7 @@ all_admits p (r ∷ rs) all =
     let rest = all_admits (p + 1) rs (All-tail OnScale r rs all) in
     grind (arith, nat_tests)
 
--- readings that are all admitted are the readings that came
+-- what is granted is the list itself
 pub all_admitted_whole : (p : ℕ) (rs : List Reading) → then (all_admitted p rs) (λ _. Ok rs) ≡ all_admitted p rs
 all_admitted_whole p [] = refl
 all_admitted_whole p (r ∷ rs) = let rest = all_admitted_whole (p + 1) rs in grind (arith, nat_tests)

@@ -1,4 +1,4 @@
--- The rows of a table: how many, which stands where, and that they are those of the stored bytes.
+-- The rows of a table: how many, which a walk has before it, and that they are those of the stored bytes.
 use Rattle.std.proofs.Common.{◌≡◌, ℕ, ◌*◌, ◌/◌, List, [], ◌∷◌, Iter, map, length, min, take, drop, refl, ◌∙◌, arith}
 use Rattle.std.specs.List.{zip}
 use Rattle.std.specs.Slice.Iter.{iter_rest}
@@ -17,6 +17,7 @@ use Rattle.stored.proofs.Stored.{stored_words}
 pub length_rows : (vs ws : List (List ℕ)) → length (rows_from vs ws) ≡ min (length vs) (length ws)
 length_rows vs ws = length-map (zip vs ws) _ ∙ length-zip vs ws
 
+-- no rows, where a column is at its end
 pub rows_none : (vs ws : List (List ℕ)) → min (length vs) (length ws) ≡ 0 → rows_from vs ws ≡ []
 rows_none [] ws e = refl
 rows_none (v ∷ vs) [] e = refl

@@ -4,6 +4,7 @@ use Rattle.stored.specs.Tables.{table_rows}
 use Rattle.stored.proofs.Rows.{ahead}
 use Rattle.stored.proofs.table.Table.fill.Given as goal
 
+-- the rows that are ahead fit, and with them the list ends as it is to
 abbrev pub invariant-loop-i : goal.invariant-loop-i
 invariant-loop-i l =
     let w = l.i-iterator in
