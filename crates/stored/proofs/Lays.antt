@@ -26,8 +26,9 @@ column_laid column rs out cur at i d h room so_far =
     let next = take_more rs i d h in
     cc
 
+-- what is laid one behind the other; in this order of the premises the check finds the lemmas by itself
 module _ (rs : List Reading) (n : ℕ) (out one two three four : List ℕ) (counted : n ≡ length rs) (a : one ≡ put_from 0 (split n) out) (b : two ≡ put_from 2 (split n) one) (c : three ≡ put_from 4 (column_bytes Values rs) two) (d : four ≡ put_from (2 * (2 + n)) (column_bytes Weights rs) three) (room : 4 + 4 * n ≤ length out) where
-  -- the two sizes, the values and the weights, laid one behind the other, are the stored bytes
+  -- the two sizes, the values and the weights are the stored bytes
   pub whole_laid : four ≡ put_from 0 (encoded rs) out
   whole_laid =
       let sizes = split n ++ split n in

@@ -98,16 +98,12 @@ rows_exact n rest long =
     let front = take n (words rest) in
     let vs = map from_complement front in
     let ws = drop n (words rest) in
-    let k = length_words rest in
-    let fl : length front ≡ n = simp length-take (omega arith) in
-    let wl : length ws ≡ n = simp length-drop (omega arith) in
-    let vl = length-map front from_complement in
-    let zl = length-zip vs ws in
     rw (stored_words n rest) (
-      length-map (zip vs ws) _ ∙ omega arith,
+      simp (length-map, length-zip, length-take, length-drop, length_words) (omega arith),
       λ all.
-          let v = values_of_paired front ws (omega arith) (All-take (λ x. x < 65536) n (words rest) (words_below rest all)) in
-          let w = weights_of_paired vs ws (omega arith) in
+          let low = All-take (λ x. x < 65536) n (words rest) (words_below rest all) in
+          let v = values_of_paired front ws (simp (length-take, length-drop, length_words) (omega arith)) low in
+          let w = weights_of_paired vs ws (simp (length-map, length-take, length-drop, length_words) (omega arith)) in
           let cells = columns_split (paired vs ws) in
           let whole = take-append-drop n (words rest) in
           let back = split_words rest (omega arith) all in
