@@ -4,16 +4,14 @@ use Rattle.std.proofs.lemmas.Int.{to_z-of_z}
 use Rattle.std.specs.Int.{int_max, int_min}
 use Rattle.reading.specs.Scale.{Scaled}
 use Rattle.reading.specs.declared.scale.Reading.{Reading}
+use Rattle.isotonic.proofs.Read.{none}
 use Rattle.isotonic.specs.Scales.{all_scaled, value_level}
 use Rattle.measures.specs.Values.{values}
 use Rattle.measures.specs.Extremes.{largest_within, smallest_within}
 use Rattle.measures.proofs.Loops.{fold_step}
 use Rattle.measures.specs.Spans.{some_values, values_above, values_below}
-use Rattle.measures.proofs.Signs.{level_fits}
+use Rattle.measures.proofs.Signs.{answered, level_fits}
 use Rattle.measures.proofs.largest.span_of.Goals as goal
-
-abbrev none : Reading
-none = record { value = pos 0; weight = 0 }
 
 pub loop-row-preserved : goal.loop-row-preserved
 loop-row-preserved c =
@@ -23,8 +21,8 @@ loop-row-preserved c =
     let scaled = subst Scaled (sym c.rows-rows.ensures) c.args.sample.list.scaled i none here in
     let value = (get_or rows i none).value in
     let same = to_z-of_z w32 value (level_fits value (value_level (get_or rows i none) scaled)) in (
-      fold_step int_min (pos 30000) rows i none _ _ _ here c.loop-row.invariant.0 same (to_z-of_z w32 c.min-low.result (record { sfits = c.min-low.type_inv }) ∙ c.min-low.ensures.value),
-      fold_step int_max (negsuc 29999) rows i none _ _ _ here c.loop-row.invariant.1 same (to_z-of_z w32 c.max-high.result (record { sfits = c.max-high.type_inv }) ∙ c.max-high.ensures.value),
+      fold_step int_min (pos 30000) rows i none _ _ _ here c.loop-row.invariant.0 same (answered _ _ c.min-low.type_inv c.min-low.ensures.value),
+      fold_step int_max (negsuc 29999) rows i none _ _ _ here c.loop-row.invariant.1 same (answered _ _ c.max-high.type_inv c.max-high.ensures.value),
     )
 
 pub returns : goal.returns

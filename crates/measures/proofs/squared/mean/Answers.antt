@@ -1,5 +1,5 @@
-use Rattle.std.proofs.Common.{◌*◌, ◌<◌, ◌≤◌, length, refl, ◌∙◌, arith, w32}
-use Rattle.std.proofs.lemmas.Int.{to_z-of_z}
+use Rattle.std.proofs.Common.{◌*◌, ◌<◌, ◌≤◌, length, refl, ◌∙◌, arith}
+use Rattle.measures.proofs.Signs.{answered}
 use Rattle.isotonic.specs.Scales.{all_scaled}
 use Rattle.isotonic.proofs.Sums.{sum_within}
 use Rattle.measures.specs.Means.{places_within, quotient_preferred}
@@ -15,7 +15,7 @@ bounds c =
     let rows = c.args.sample.list.rows.now in
     let all = all_scaled rows c.args.sample.list.scaled in
     let same = c.weigh-whole.ensures in
-    (omega (arith, whole_positive rows all c.args.sample.some), omega (arith, sum_within (λ r. r.weight) 1000 weight_small rows all), omega (arith, places_within rows all))
+    (omega (arith, whole_positive rows all c.args.sample.some), omega (arith, sum_within (λ r. r.weight) 1000 weight_small rows c.args.sample.list.scaled), omega (arith, places_within rows all))
 
 pub overflow_mul-sum : goal.overflow_mul-sum
 overflow_mul-sum c = omega (arith, bounds c, c.args.sample.few)
@@ -42,4 +42,4 @@ returns c =
     let rows = c.args.sample.list.rows.now in
     let preferred =
     quotient_preferred rows (all_scaled rows c.args.sample.list.scaled) c.args.sample.some _ _ _ c.weigh-whole.ensures.sum c.weigh-whole.ensures.whole refl in
-    to_z-of_z w32 c.level_at.result (record { sfits = c.level_at.type_inv }) ∙ c.level_at.ensures ∙ preferred.1
+    answered _ _ c.level_at.type_inv c.level_at.ensures ∙ preferred.1
