@@ -37,17 +37,13 @@ pub trait Additive: Copy {
     ghost first: { (c : Self) → PrefersFirst (costs c) (least c) };
 }
 
-// The sum of the costs of all readings. As a chain its proof did not close.
+// The sum of the costs of all readings.
 fn added<C: Additive>(cost: C, list: Readings<'_>, level: i32) -> u64
     requires few { length (rows_of list) ≤ limit }
     requires level { Level level }
     ensures { result ≡ total (C.costs cost) (rows_of list.entry) level }
 {
-    let mut sum = 0;
-    for row in list.rows() {
-        sum += cost.cost(*row, level);
-    }
-    sum
+    list.rows().iter().map(|row| cost.cost(*row, level)).sum()
 }
 
 impl<C: Additive> Measure for C {

@@ -1,35 +1,39 @@
-use Rattle.std.proofs.Common.{◌+◌, ◌*◌, ◌≤◌, length, get_or, take, sum_by, sym, ap, subst, arith, w32, to_z, of_z}
+use Rattle.std.proofs.Common.{rules, ◌≡◌, ◌*◌, ◌%◌, ◌^◌, ◌≤◌, List, length, sum_by, ℤ, ap, ◌∙◌, arith, w32, SFits, to_z, of_z}
 use Rattle.std.proofs.lemmas.Int.{to_z-of_z}
-use Rattle.std.proofs.lemmas.List.Sums.{sum_by_more}
-use Rattle.reading.specs.Scale.{Level, Scaled}
-use Rattle.reading.specs.declared.scale.Reading.{Reading}
+use Rattle.std.proofs.lemmas.Iterator.{YieldsList-from_map, YieldsList-from_slice}
+use Rattle.std.proofs.lemmas.Iterator.Consumers.{fits_by_from_yields_list, sum_by_from_yields_List}
 use Rattle.isotonic.specs.Bounds.{one_most}
 use Rattle.isotonic.specs.Costs.{total}
-use Rattle.isotonic.proofs.Read.{none, whole_read}
-use Rattle.isotonic.proofs.Sums.{next_within}
+use Rattle.isotonic.proofs.Sums.{sum_held, sum_within}
+use Rattle.reading.specs.Scale.{Level, OnScale, Scaled}
+use Rattle.reading.specs.declared.scale.Reading.{Reading}
 use Rattle.isotonic.proofs.additive.added.Given.{Over}
 use Rattle.isotonic.proofs.additive.added.Goals as goal
 
--- the next reading costs what a word holds, and so does the sum with it
-within :
-    (g : Over) (c : goal.After-cost-sum g) → let f = λ (r : Reading). g.C.Additive.costs c.args.cost r (to_z w32 (of_z w32 c.args.level)) in
-    let rows = c.rows-row-items.result.now in
-    let i = c.loop-row.row-index in
-    (f (get_or rows i none) ≤ one_most) × (sum_by f (take i rows) + f (get_or rows i none) ≤ length rows * one_most)
-within g c =
-    let level = to_z w32 (of_z w32 c.args.level) in
-    let here = subst Level (sym (to_z-of_z w32 c.args.level c.ranges.level)) c.requires.level in
-    next_within (λ r. g.C.Additive.costs c.args.cost r level) one_most (λ r scaled. g.met.C.Additive.small c.args.cost r level scaled here)
-    c.rows-row-items.result.now (subst Scaled (sym c.rows-row-items.ensures) c.args.list.scaled) c.loop-row.row-index c.loop-row-test.true
+-- the costs as words hold them, at the level as its bits hold it, add up to the whole, which is not much
+whole :
+    (g : Over) (cost : g.row.C.Denot) (level : ℤ) (rows seen : List Reading) → SFits w32 level → Level level → Scaled rows → seen ≡ rows
+    → let held = sum_by (λ r. g.C.Additive.costs cost r (to_z w32 (of_z w32 level)) % 2 ^ 64) seen in
+    (held ≡ total (g.C.Additive.costs cost) rows level) × (held ≤ length rows * one_most)
+whole g cost level rows seen fits here scaled same =
+    let f = λ (r : Reading). g.C.Additive.costs cost r level in
+    let small : (r : Reading) → OnScale r → f r ≤ one_most = λ r on. g.met.C.Additive.small cost r level on here in
+    let back = ap (λ v. sum_by (λ r. g.C.Additive.costs cost r v % 2 ^ 64) seen) (to_z-of_z w32 level fits) in
+    let e = back ∙ ap (sum_by (λ r. f r % 2 ^ 64)) same ∙ sum_held f one_most small (omega arith) rows scaled in
+    (e, omega (arith, e, sum_within f one_most small rows scaled))
 
-pub overflow_add-sum : goal.overflow_add-sum
-overflow_add-sum g c = omega (arith, within g c, c.cost-sum.ensures, c.loop-row.invariant, c.requires.few, ap length c.rows-row-items.ensures)
-
-pub loop-row-preserved : goal.loop-row-preserved
-loop-row-preserved g c =
-    let f = λ (r : Reading). g.C.Additive.costs c.args.cost r (to_z w32 (of_z w32 c.args.level)) in
-    omega (arith, within g c, sum_by_more f c.rows-row-items.result.now c.loop-row.row-index none c.loop-row-test.true, c.cost-sum.ensures, c.loop-row.invariant)
+pub sum-requires-clause-fits : goal.sum-requires-clause-fits
+sum-requires-clause-fits g c =
+    let held = λ (r : Reading). g.C.Additive.costs c.args.cost r (to_z w32 (of_z w32 c.args.level)) % 2 ^ 64 in
+    let sum = whole g c.args.cost c.args.level _ _ c.ranges.level c.requires.level c.args.list.scaled c.rows.ensures in
+    fits_by_from_yields_list held _ c.map.result (2 ^ 64)
+    (YieldsList-from_map _ held (YieldsList-from_slice c.rows.result.now (cc)) c.map.ensures.closure (λ x r q k. search rules))
+    (omega (arith, sum, c.requires.few))
 
 pub returns : goal.returns
 returns g c =
-    whole_read (total (g.C.Additive.costs c.args.cost)) _ _ _ _ _ c.rows-row-items.ensures c.loop-row-test.false c.ranges.level c.loop-row.invariant
+    let held = λ (r : Reading). g.C.Additive.costs c.args.cost r (to_z w32 (of_z w32 c.args.level)) % 2 ^ 64 in
+    let sum = whole g c.args.cost c.args.level _ _ c.ranges.level c.requires.level c.args.list.scaled c.rows.ensures in
+    sum_by_from_yields_List held _ c.map.result c.sum.result c.sum.ensures.ran
+    (YieldsList-from_map _ held (YieldsList-from_slice c.rows.result.now (cc)) c.map.ensures.closure (λ x r q k. search rules))
+    ∙ sum.0
