@@ -1,10 +1,13 @@
 -- Sums over the readings of a list, each of which adds no more than a bound.
-use Rattle.std.proofs.Common.{◌≡◌, ℕ, ◌+◌, ◌*◌, ◌%◌, ◌^◌, ◌<◌, ◌≤◌, List, [], ◌∷◌, length, get_or, take, sum_by, refl, arith}
+use Rattle.std.proofs.Common.{◌≡◌, ℕ, ◌+◌, ◌*◌, ◌%◌, ◌^◌, ◌<◌, ◌≤◌, List, [], ◌∷◌, length, get_or, take, pos, sum_by, refl, arith}
 use Rattle.std.proofs.lemmas.List.Elements.{All-head, All-tail, All-weaker}
 use Rattle.std.proofs.lemmas.List.Sums.{sum_by-cons, sum_by-le, sum_by_more_le}
 use Rattle.reading.specs.declared.scale.Reading.{Reading}
 use Rattle.reading.specs.Scale.{OnScale, Scaled}
-use Rattle.isotonic.proofs.Read.{none}
+
+-- what is read at an index past the end of a slice
+abbrev pub none : Reading
+none = record { value = pos 0; weight = 0 }
 
 module _ (f : Reading → ℕ) (most : ℕ) (small : (r : Reading) → OnScale r → f r ≤ most) where
   -- no sum passes the bound times the number of readings

@@ -1,3 +1,4 @@
+pub mod Folds
 pub mod Halves
 pub mod Loops
 pub mod Signs

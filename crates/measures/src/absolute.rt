@@ -26,16 +26,11 @@ fn counted(row: Reading, level: i32) -> u64
     }
 }
 
-// The weight of all values up to a level. A chain is slower; and it is no departure of a measure, so it has a
-// loop of its own.
+// The weight of all values up to a level.
 fn weight_up_to(sample: Sample<'_>, level: i32) -> u64
     ensures { result ≡ weight_up_to (sampled sample.entry) level }
 {
-    let mut sum: u64 = 0;
-    for row in sample.rows() {
-        sum += counted(*row, level);
-    }
-    sum
+    sample.rows().iter().map(|row| counted(*row, level)).sum()
 }
 
 // The smallest level with at least half of the weight up to it, by bisecting the levels. The library bisects

@@ -17,15 +17,14 @@ use reading::{HIGHEST, LOWEST, Readings};
 #[derive(Clone, Copy, PartialEq, Eq, Debug)]
 pub struct Largest;
 
-// The largest |value - level|; 0 for no readings. A chain is slower.
+// The largest |value - level|; 0 for no readings.
+#[tactic(auto, using(crate::proofs::Folds::departs_folds))]
 fn farthest(list: Readings<'_>, level: i32) -> u64
     ensures { result ≡ largest_departs (rows_of list.entry) level }
 {
-    let mut most: u64 = 0;
-    for row in list.rows() {
-        most = most.max(distance_from(*row, level));
-    }
-    most
+    list.rows()
+        .iter()
+        .fold(0, |most: u64, row| most.max(distance_from(*row, level)))
 }
 
 // The smallest and the largest value.

@@ -4,7 +4,7 @@ use Rattle.std.proofs.lemmas.Int.{to_z-of_z}
 use Rattle.std.specs.Int.{int_max, int_min}
 use Rattle.reading.specs.Scale.{Scaled}
 use Rattle.reading.specs.declared.scale.Reading.{Reading}
-use Rattle.isotonic.proofs.Read.{none}
+use Rattle.isotonic.proofs.Sums.{none}
 use Rattle.isotonic.specs.Scales.{all_scaled, value_level}
 use Rattle.measures.specs.Values.{values}
 use Rattle.measures.specs.Extremes.{largest_within, smallest_within}
