@@ -1,10 +1,10 @@
 -- How far a list can depart at a level: by the bound of one reading, times its length.
 use Rattle.std.proofs.Common.{◌≡◌, ℕ, ◌*◌, ◌≤◌, leb, Bool, true, false, List, [], ◌∷◌, length, ℤ, Some, sym, refl, arith}
 use Rattle.std.proofs.lemmas.Bool.{and_parts}
+use Rattle.std.proofs.lemmas.List.Elements.{All-cons, All-head, All-nil, All-tail}
 use Rattle.std.specs.Bool.{then_some}
-use Rattle.std.specs.List.{AllByRecursion}
 use Rattle.reading.specs.declared.scale.Reading.{Reading}
-use Rattle.reading.specs.Scale.{Level, OnScale, is_level, limit}
+use Rattle.reading.specs.Scale.{Level, OnScale, Scaled, is_level, limit}
 use Rattle.isotonic.specs.Answers.{departure_answer, has_departure}
 use Rattle.isotonic.specs.Bounds.{one_most}
 use Rattle.isotonic.specs.Laws.{CombinesInAnyOrder, EmptyDepartsByZero, JoinedDeparturesCombine, OneDepartsWithin}
@@ -16,16 +16,18 @@ given_some false x d e = absurd (cc)
 
 module _ (dep : List Reading → ℤ → ℕ) (comb : ℕ → ℕ → ℕ) (empty : EmptyDepartsByZero dep) (joined : JoinedDeparturesCombine dep comb)
     (combining : CombinesInAnyOrder comb) (bounded : OneDepartsWithin dep) where
-  pub departs_within : (rs : List Reading) (v : ℤ) → AllByRecursion OnScale rs → Level v → dep rs v ≤ one_most * length rs
+  pub departs_within : (rs : List Reading) (v : ℤ) → Scaled rs → Level v → dep rs v ≤ one_most * length rs
   departs_within [] v all level = omega (arith, empty v level)
   departs_within (r ∷ rs) v all level =
-      let rest = departs_within rs v all.1 level in
-      let first = bounded r v all.0 level in
-      let whole = joined (r ∷ []) rs v (all.0, tt) all.1 level in
+      let one = All-head OnScale r rs all in
+      let behind = All-tail OnScale r rs all in
+      let rest = departs_within rs v behind level in
+      let first = bounded r v one level in
+      let whole = joined (r ∷ []) rs v (All-cons OnScale r [] one (All-nil OnScale)) behind level in
       omega (arith, combining.at_most_sum (dep (r ∷ []) v) (dep rs v))
 
   -- so does what is answered for it
-  pub answer_within : (rs : List Reading) (v : ℤ) (d : ℕ) → AllByRecursion OnScale rs → departure_answer dep rs v ≡ Some d → d ≤ one_most * length rs
+  pub answer_within : (rs : List Reading) (v : ℤ) (d : ℕ) → Scaled rs → departure_answer dep rs v ≡ Some d → d ≤ one_most * length rs
   answer_within rs v d all e =
       let told = given_some (has_departure rs v) (dep rs v) d e in
       let level = (and_parts (leb (length rs) limit) (is_level v) told.0).1 in

@@ -1,8 +1,7 @@
 -- Measures that add up a cost of each reading: what they owe of that cost. Assumes nothing.
 use Rattle.std.specs.Prelude.{◌≡◌, ℕ, suc, ◌+◌, ◌<◌, ◌≤◌, List, length, ℤ, ◌≤ℤ◌, sum_by}
-use Rattle.std.specs.List.{AllByRecursion}
 use Rattle.reading.specs.declared.scale.Reading.{Reading}
-use Rattle.reading.specs.Scale.{Level, OnScale}
+use Rattle.reading.specs.Scale.{Level, OnScale, Scaled}
 use Rattle.isotonic.specs.Bounds.{one_most}
 use Rattle.isotonic.specs.Convex.{Bends, First}
 use Rattle.isotonic.specs.Places.{at, top}
@@ -32,4 +31,4 @@ CostShifts cost =
 -- what is preferred is the first level at which the total is least
 abbrev pub PrefersFirst : (Reading → ℤ → ℕ) → (List Reading → ℤ) → Type 0
 PrefersFirst cost pref =
-    (rs : List Reading) → AllByRecursion OnScale rs → 0 < length rs → (p : ℕ) × (pref rs ≡ at p) × First (placed_cost cost rs) top p
+    (rs : List Reading) → Scaled rs → 0 < length rs → (p : ℕ) × (pref rs ≡ at p) × First (placed_cost cost rs) top p

@@ -1,8 +1,8 @@
 -- The seven laws that every measure keeps: of what a list departs by at a level, how departures combine, and the level a list prefers. Assumes nothing.
 use Rattle.std.specs.Prelude.{◌≡◌, ℕ, ◌+◌, ◌<◌, ◌≤◌, ◌⊎◌, List, [], ◌∷◌, ◌++◌, length, ℤ, ◌≤ℤ◌, ◌<ℤ◌}
-use Rattle.std.specs.List.{AllByRecursion, AllZip}
+use Rattle.std.specs.List.{AllZip}
 use Rattle.reading.specs.declared.scale.Reading.{Reading}
-use Rattle.reading.specs.Scale.{Level, OnScale}
+use Rattle.reading.specs.Scale.{Level, OnScale, Scaled}
 use Rattle.isotonic.specs.Bounds.{one_most}
 
 -- the empty list departs by 0 at every level
@@ -12,7 +12,7 @@ EmptyDepartsByZero dep = (v : ℤ) → Level v → dep [] v ≡ 0
 -- one list followed by another departs, at one level, by the combination of their two departures
 abbrev pub JoinedDeparturesCombine : (List Reading → ℤ → ℕ) → (ℕ → ℕ → ℕ) → Type 0
 JoinedDeparturesCombine dep comb =
-    (xs ys : List Reading) (v : ℤ) → AllByRecursion OnScale xs → AllByRecursion OnScale ys → Level v → dep (xs ++ ys) v ≡ comb (dep xs v) (dep ys v)
+    (xs ys : List Reading) (v : ℤ) → Scaled xs → Scaled ys → Level v → dep (xs ++ ys) v ≡ comb (dep xs v) (dep ys v)
 
 -- combining: in any order and grouping, 0 adds nothing, a larger part never gives a smaller whole, and no whole is above the sum
 pub record CombinesInAnyOrder (comb : ℕ → ℕ → ℕ) : Type 0 where
@@ -33,12 +33,12 @@ LiesBetween p u v = ((p ≤ℤ u) × (u ≤ℤ v)) ⊎ ((v ≤ℤ u) × (u ≤�
 -- the preferred level is a level, and no level between it and v departs by more than v
 abbrev pub NearerDepartsNoMore : (List Reading → ℤ → ℕ) → (List Reading → ℤ) → Type 0
 NearerDepartsNoMore dep pref =
-    (xs : List Reading) → AllByRecursion OnScale xs → 0 < length xs → Level (pref xs) × ((u v : ℤ) → Level v → LiesBetween (pref xs) u v → dep xs u ≤ dep xs v)
+    (xs : List Reading) → Scaled xs → 0 < length xs → Level (pref xs) × ((u v : ℤ) → Level v → LiesBetween (pref xs) u v → dep xs u ≤ dep xs v)
 
 -- two lists joined are preferred neither below both nor above both
 abbrev pub JoinedPrefersBetween : (List Reading → ℤ) → Type 0
 JoinedPrefersBetween pref =
-    (xs ys : List Reading) → AllByRecursion OnScale xs → AllByRecursion OnScale ys → 0 < length xs → 0 < length ys
+    (xs ys : List Reading) → Scaled xs → Scaled ys → 0 < length xs → 0 < length ys
     → (pref (xs ++ ys) <ℤ pref xs → pref (xs ++ ys) <ℤ pref ys → ⊥) × (pref xs <ℤ pref (xs ++ ys) → pref ys <ℤ pref (xs ++ ys) → ⊥)
 
 -- as many readings, with values nowhere lower and the same weights
@@ -48,4 +48,4 @@ NowhereLower xs ys = AllZip (λ (x y : Reading). (x.value ≤ℤ y.value) × (x.
 -- values nowhere lower, with the same weights, are preferred no lower
 abbrev pub RaisedPrefersNoLower : (List Reading → ℤ) → Type 0
 RaisedPrefersNoLower pref =
-    (xs ys : List Reading) → AllByRecursion OnScale xs → AllByRecursion OnScale ys → 0 < length xs → NowhereLower xs ys → pref xs ≤ℤ pref ys
+    (xs ys : List Reading) → Scaled xs → Scaled ys → 0 < length xs → NowhereLower xs ys → pref xs ≤ℤ pref ys

@@ -1,15 +1,10 @@
--- Readings on the scale, as a fact of each of them, and the scale as bounds.
-use Rattle.std.proofs.Common.{◌≤◌, leb, List, ℤ, pos, negsuc, ◌≤ℤ◌, arith}
+-- The scale as bounds.
+use Rattle.std.proofs.Common.{◌≤◌, leb, ℤ, pos, negsuc, ◌≤ℤ◌, arith}
 use lib.Signed.{le_z}
-use Rattle.std.proofs.lemmas.List.Elements.{recursion_from_All}
 use Rattle.std.proofs.lemmas.Int.{ints}
 use Rattle.std.proofs.lemmas.Bool.{and_from, and_parts, leb-true}
-use Rattle.std.specs.List.{AllByRecursion}
 use Rattle.reading.specs.declared.scale.Reading.{Reading}
-use Rattle.reading.specs.Scale.{Level, OnScale, Scaled, is_level, is_weight}
-
-pub all_scaled : (rs : List Reading) → Scaled rs → AllByRecursion OnScale rs
-all_scaled rs scaled = recursion_from_All OnScale rs scaled
+use Rattle.reading.specs.Scale.{Level, OnScale, is_level, is_weight}
 
 -- a level lies on the scale of levels
 pub level_bounds : (v : ℤ) → Level v → (negsuc 29999 ≤ℤ v) × (v ≤ℤ pos 30000)

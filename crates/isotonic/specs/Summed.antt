@@ -1,14 +1,12 @@
 -- Departures that add up a cost of each reading: their laws, wherever that cost bends upwards along the levels.
 use Rattle.std.specs.Prelude.{◌≡◌, ℕ, suc, ◌+◌, ◌<◌, ◌≤◌, List, [], ◌∷◌, ◌++◌, ℤ, ◌≤ℤ◌, refl}
 use Rattle.std.proofs.Common.{inl, inr, sym, subst, add_assoc, add_comm, zero-add, arith}
-use Rattle.std.proofs.ByRecursion.{All-append}
 use Rattle.std.proofs.lemmas.List.{length-append}
-use Rattle.std.proofs.lemmas.List.Elements.{length_all_zip}
+use Rattle.std.proofs.lemmas.List.Elements.{All-append, All-head, All-tail, length_all_zip}
 use Rattle.std.proofs.lemmas.Int.{ints}
 use Rattle.std.proofs.lemmas.List.Sums.{sum_by-append, sum_by-cons}
-use Rattle.std.specs.List.{AllByRecursion}
 use Rattle.reading.specs.declared.scale.Reading.{Reading}
-use Rattle.reading.specs.Scale.{Level, OnScale}
+use Rattle.reading.specs.Scale.{Level, OnScale, Scaled}
 use Rattle.isotonic.specs.Laws.{CombinesInAnyOrder, EmptyDepartsByZero, JoinedDeparturesCombine, JoinedPrefersBetween, LiesBetween, NearerDepartsNoMore, NowhereLower, OneDepartsWithin, RaisedPrefersNoLower}
 use Rattle.isotonic.specs.Smallest.{PrefersSmallestOfLeast}
 use Rattle.isotonic.specs.Costs.{CostBends, CostIsWithin, CostShifts, PrefersFirst, placed_cost, total}
@@ -36,30 +34,30 @@ module _ (cost : Reading → ℤ → ℕ) where
   pub sum_bounded : CostIsWithin cost → OneDepartsWithin (total cost)
   sum_bounded small r v scaled level = omega (arith, small r v scaled level)
 
-  pub total_bends : CostBends cost → (rs : List Reading) → AllByRecursion OnScale rs → Bends (placed_cost cost rs) top
+  pub total_bends : CostBends cost → (rs : List Reading) → Scaled rs → Bends (placed_cost cost rs) top
   total_bends bends [] all n h = omega arith
   total_bends bends (r ∷ rs) all n h =
-      let rest = total_bends bends rs all.1 n h in
-      let one = bends r all.0 n h in
+      let rest = total_bends bends rs (All-tail OnScale r rs all) n h in
+      let one = bends r (All-head OnScale r rs all) n h in
       omega
       (arith, sum_by-cons (λ s. cost s (at n)) r rs, sum_by-cons (λ s. cost s (at (suc n))) r rs, sum_by-cons (λ s. cost s (at (suc (suc n)))) r rs)
 
   total_shifts :
-      CostShifts cost → (xs ys : List Reading) → AllByRecursion OnScale xs → AllByRecursion OnScale ys → NowhereLower xs ys → (n : ℕ) → n < top
+      CostShifts cost → (xs ys : List Reading) → Scaled xs → Scaled ys → NowhereLower xs ys → (n : ℕ) → n < top
       → placed_cost cost ys (suc n) + placed_cost cost xs n ≤ placed_cost cost ys n + placed_cost cost xs (suc n)
   total_shifts shifts [] [] all_x all_y lower n h = omega arith
   total_shifts shifts [] (y ∷ ys) all_x all_y lower n h = absurd lower
   total_shifts shifts (x ∷ xs) [] all_x all_y lower n h = absurd lower
   total_shifts shifts (x ∷ xs) (y ∷ ys) all_x all_y lower n h =
-      let rest = total_shifts shifts xs ys all_x.1 all_y.1 lower.1 n h in
-      let one = shifts x y all_x.0 all_y.0 lower.0.0 lower.0.1 n h in
+      let rest = total_shifts shifts xs ys (All-tail OnScale x xs all_x) (All-tail OnScale y ys all_y) lower.1 n h in
+      let one = shifts x y (All-head OnScale x xs all_x) (All-head OnScale y ys all_y) lower.0.0 lower.0.1 n h in
       omega
       (arith, sum_by-cons (λ s. cost s (at n)) x xs, sum_by-cons (λ s. cost s (at (suc n))) x xs, sum_by-cons (λ s. cost s (at n)) y ys, sum_by-cons (λ s. cost s (at (suc n))) y ys)
 
 module _ (cost : Reading → ℤ → ℕ) (pref : List Reading → ℤ) (bends : CostBends cost) (first : PrefersFirst cost pref) where
   -- the law on nearer levels, by places
   nearer_placed :
-      (rs : List Reading) (p a b : ℕ) (u v : ℤ) → AllByRecursion OnScale rs → First (placed_cost cost rs) top p → b ≤ top → u ≡ at a → v ≡ at b
+      (rs : List Reading) (p a b : ℕ) (u v : ℤ) → Scaled rs → First (placed_cost cost rs) top p → b ≤ top → u ≡ at a → v ≡ at b
       → LiesBetween (at p) u v → total cost rs u ≤ total cost rs v
   nearer_placed rs p a b u v all best high eu ev (inl h) =
       rw (eu, ev)

@@ -4,7 +4,7 @@ use lib.Signed.{mag_shr, shr_z}
 use Rattle.std.proofs.lemmas.Int.{ints, to_z-of_z}
 use Rattle.reading.specs.declared.scale.Reading.{Reading}
 use Rattle.reading.specs.Scale.{Level, Scaled}
-use Rattle.isotonic.specs.Scales.{all_scaled, level_bounds}
+use Rattle.isotonic.specs.Scales.{level_bounds}
 use Rattle.measures.specs.Spans.{span_levels}
 use Rattle.measures.specs.Values.{largest, smallest, values}
 use Rattle.measures.proofs.Signs.{level_fits}
@@ -28,6 +28,6 @@ pub ends_halved :
     → let sum = to_z w32 (of_z w32 low) +ℤ to_z w32 (of_z w32 high) in
     SFits w32 sum × (to_z w32 (of_z w32 (shr_z (to_z w32 (of_z w32 sum)) 2)) ≡ shr_z (smallest (values rs) +ℤ largest (values rs)) 2)
 ends_halved rs scaled some low high e f =
-    let levels = span_levels rs (all_scaled rs scaled) some low high e f in
+    let levels = span_levels rs scaled some low high e f in
     let half = halved low high levels.0 levels.1 in
     (half.0, cc (half.1, e, f))

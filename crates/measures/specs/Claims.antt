@@ -1,6 +1,6 @@
 -- The theorems on the three measures and on the words that define them. Assumes nothing.
 use Rattle.std.specs.Prelude.{◌≡◌, ℕ, ◌<◌, ◌≤◌, List, length, ℤ, pos, ◌*ℤ◌, ◌≤ℤ◌}
-use Rattle.std.specs.List.{ContainsAt, AllByRecursion}
+use Rattle.std.specs.List.{Contains, All}
 use Rattle.isotonic.specs.Smallest.{PrefersSmallestOfLeast}
 use Rattle.measures.specs.Absolute.{absolute_departs, absolute_prefers}
 use Rattle.measures.specs.Largest.{largest_departs, largest_prefers}
@@ -17,7 +17,7 @@ AllPreferSmallestOfLeast =
 abbrev pub ExtremesAreReached : Type 0
 ExtremesAreReached =
     (xs : List ℤ) → 0 < length xs
-    → ContainsAt xs (smallest xs) × AllByRecursion (λ x. smallest xs ≤ℤ x) xs × ContainsAt xs (largest xs) × AllByRecursion (λ x. x ≤ℤ largest xs) xs
+    → Contains xs (smallest xs) × All (λ x. smallest xs ≤ℤ x) xs × Contains xs (largest xs) × All (λ x. x ≤ℤ largest xs) xs
 
 -- n times the floored quotient is not above z, and of no larger whole number is that so
 abbrev pub FlooredIsLargestNotAbove : Type 0

@@ -1,55 +1,53 @@
 -- The smallest and the largest of a list: they bound it, and what holds of each number in it holds of them.
 use Rattle.std.specs.Prelude.{◌≡◌, ◌<◌, ◌⊎◌, List, [], ◌∷◌, ◌++◌, length, ℤ, ◌≤ℤ◌, fold, refl}
-use Rattle.std.proofs.Common.{inl, inr, ⊎_elim, sym, ap, subst, arith}
-use Rattle.std.proofs.ByRecursion.{All-append, all-has, all_has_itself, All-weaker, folded_max_z_bounds, folded_max_z_reached, folded_min_z_bounds, folded_min_z_reached}
+use Rattle.std.proofs.Common.{get_or, inl, inr, ⊎_elim, sym, ap, subst, arith}
 use Rattle.std.proofs.lemmas.List.{length-append}
-use Rattle.std.proofs.lemmas.Int.{clamps, ints}
+use Rattle.std.proofs.lemmas.List.Elements.{All-append, All-cons, All-contains, All-contains_itself, All-head, All-nil, All-tail, All-weaker, Contains-append_left, Contains-append_right, Contains-get_or}
+use Rattle.std.proofs.lemmas.Int.{clamps, fold-int_max_bounds, fold-int_max_reached, fold-int_min_bounds, fold-int_min_reached, ints}
 use Rattle.std.specs.Int.{int_max, int_min}
-use Rattle.std.specs.List.{ContainsAt, AllByRecursion}
+use Rattle.std.specs.List.{Contains, All}
 use Rattle.measures.specs.Claims.{ExtremesAreReached}
 use Rattle.measures.specs.Values.{largest, smallest}
 
-pub smallest_bounds : (xs : List ℤ) → AllByRecursion (λ x. smallest xs ≤ℤ x) xs
-smallest_bounds [] = tt
-smallest_bounds (x ∷ xs) = folded_min_z_bounds x xs (fold int_min x xs) refl
+pub smallest_bounds : (xs : List ℤ) → All (λ x. smallest xs ≤ℤ x) xs
+smallest_bounds [] = All-nil _
+smallest_bounds (x ∷ xs) = let h = fold-int_min_bounds x xs (fold int_min x xs) refl in All-cons (λ y. fold int_min x xs ≤ℤ y) x xs h.0 h.1
 
-pub largest_bounds : (xs : List ℤ) → AllByRecursion (λ x. x ≤ℤ largest xs) xs
-largest_bounds [] = tt
-largest_bounds (x ∷ xs) = folded_max_z_bounds x xs (fold int_max x xs) refl
+pub largest_bounds : (xs : List ℤ) → All (λ x. x ≤ℤ largest xs) xs
+largest_bounds [] = All-nil _
+largest_bounds (x ∷ xs) = let h = fold-int_max_bounds x xs (fold int_max x xs) refl in All-cons (λ y. y ≤ℤ fold int_max x xs) x xs h.0 h.1
 
-pub smallest_holds : (P : ℤ → Type 0) (xs : List ℤ) → 0 < length xs → AllByRecursion P xs → P (smallest xs)
+pub smallest_holds : (P : ℤ → Type 0) (xs : List ℤ) → 0 < length xs → All P xs → P (smallest xs)
 smallest_holds P [] some all = absurd (omega arith)
 smallest_holds P (x ∷ xs) some all =
-    ⊎_elim (λ e. subst P (sym e) all.0) (λ has. all-has P xs (fold int_min x xs) all.1 has) (folded_min_z_reached x xs (fold int_min x xs) refl)
+    ⊎_elim (λ e. subst P (sym e) (All-head P x xs all)) (All-contains P xs (fold int_min x xs) (All-tail P x xs all)) (fold-int_min_reached x xs (fold int_min x xs) refl)
 
-pub largest_holds : (P : ℤ → Type 0) (xs : List ℤ) → 0 < length xs → AllByRecursion P xs → P (largest xs)
+pub largest_holds : (P : ℤ → Type 0) (xs : List ℤ) → 0 < length xs → All P xs → P (largest xs)
 largest_holds P [] some all = absurd (omega arith)
 largest_holds P (x ∷ xs) some all =
-    ⊎_elim (λ e. subst P (sym e) all.0) (λ has. all-has P xs (fold int_max x xs) all.1 has) (folded_max_z_reached x xs (fold int_max x xs) refl)
+    ⊎_elim (λ e. subst P (sym e) (All-head P x xs all)) (All-contains P xs (fold int_max x xs) (All-tail P x xs all)) (fold-int_max_reached x xs (fold int_max x xs) refl)
 
 pub extremes_reached : ExtremesAreReached
 extremes_reached xs some =
-    (smallest_holds (ContainsAt xs) xs some (all_has_itself xs), smallest_bounds xs, largest_holds (ContainsAt xs) xs some (all_has_itself xs), largest_bounds xs)
+    (smallest_holds (Contains xs) xs some (All-contains_itself xs), smallest_bounds xs, largest_holds (Contains xs) xs some (All-contains_itself xs), largest_bounds xs)
 
 -- starting from what none of them passes changes nothing
-pub smallest_within : (z : ℤ) (xs : List ℤ) → 0 < length xs → AllByRecursion (λ x. x ≤ℤ z) xs → fold int_min z xs ≡ smallest xs
+pub smallest_within : (z : ℤ) (xs : List ℤ) → 0 < length xs → All (λ x. x ≤ℤ z) xs → fold int_min z xs ≡ smallest xs
 smallest_within z [] some all = absurd (omega arith)
-smallest_within z (x ∷ xs) some all = ap (λ a. fold int_min a xs) (let h = all.0 in omega (arith, ints, clamps))
+smallest_within z (x ∷ xs) some all = ap (λ a. fold int_min a xs) (omega (arith, ints, clamps, All-head (λ y. y ≤ℤ z) x xs all))
 
-pub largest_within : (z : ℤ) (xs : List ℤ) → 0 < length xs → AllByRecursion (λ x. z ≤ℤ x) xs → fold int_max z xs ≡ largest xs
+pub largest_within : (z : ℤ) (xs : List ℤ) → 0 < length xs → All (λ x. z ≤ℤ x) xs → fold int_max z xs ≡ largest xs
 largest_within z [] some all = absurd (omega arith)
-largest_within z (x ∷ xs) some all = ap (λ a. fold int_max a xs) (let h = all.0 in omega (arith, ints, clamps))
+largest_within z (x ∷ xs) some all = ap (λ a. fold int_max a xs) (omega (arith, ints, clamps, All-head (λ y. z ≤ℤ y) x xs all))
 
 -- ---- of two lists joined
 
 module _ {X : Type 0} (P : X → Type 0) where
-  all_left : (xs ys : List X) → AllByRecursion P (xs ++ ys) → AllByRecursion P xs
-  all_left [] ys all = tt
-  all_left (x ∷ xs) ys all = (all.0, all_left xs ys all.1)
+  all_left : (xs ys : List X) → All P (xs ++ ys) → All P xs
+  all_left xs ys all k d h = All-contains P (xs ++ ys) (get_or xs k d) all (Contains-append_left xs ys (get_or xs k d) (Contains-get_or xs k d h))
 
-  all_right : (xs ys : List X) → AllByRecursion P (xs ++ ys) → AllByRecursion P ys
-  all_right [] ys all = all
-  all_right (x ∷ xs) ys all = all_right xs ys all.1
+  all_right : (xs ys : List X) → All P (xs ++ ys) → All P ys
+  all_right xs ys all k d h = All-contains P (xs ++ ys) (get_or ys k d) all (Contains-append_right xs ys (get_or ys k d) (Contains-get_or ys k d h))
 
 module _ (xs ys : List ℤ) (some_x : 0 < length xs) (some_y : 0 < length ys) where
   both_some : 0 < length (xs ++ ys)
@@ -57,7 +55,7 @@ module _ (xs ys : List ℤ) (some_x : 0 < length xs) (some_y : 0 < length ys) wh
 
   -- the ends of the whole bound those of the parts
   part_bounds :
-      (zs : List ℤ) → 0 < length zs → AllByRecursion (λ x. smallest (xs ++ ys) ≤ℤ x) zs → AllByRecursion (λ x. x ≤ℤ largest (xs ++ ys)) zs
+      (zs : List ℤ) → 0 < length zs → All (λ x. smallest (xs ++ ys) ≤ℤ x) zs → All (λ x. x ≤ℤ largest (xs ++ ys)) zs
       → (smallest (xs ++ ys) ≤ℤ smallest zs) × (largest zs ≤ℤ largest (xs ++ ys))
   part_bounds zs some low high = (smallest_holds (λ x. smallest (xs ++ ys) ≤ℤ x) zs some low, largest_holds (λ x. x ≤ℤ largest (xs ++ ys)) zs some high)
 

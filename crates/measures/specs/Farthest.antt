@@ -2,10 +2,11 @@
 use Rattle.std.specs.Prelude.{◌≡◌, ℕ, ◌+◌, ◌-◌, ◌<◌, ◌≤◌, max, List, [], ◌∷◌, ◌++◌, length, take, ℤ, ◌≤ℤ◌, slice_index_or, refl}
 use Rattle.std.proofs.Common.{ap, subst, arith}
 use Rattle.std.proofs.lemmas.List.{take_more}
+use Rattle.std.proofs.lemmas.List.Elements.{All-cons, All-head, All-nil, All-tail}
 use Rattle.std.proofs.lemmas.Int.{ints}
-use Rattle.std.specs.List.{AllByRecursion}
+use Rattle.std.specs.List.{All}
 use Rattle.reading.specs.declared.scale.Reading.{Reading}
-use Rattle.reading.specs.Scale.{OnScale}
+use Rattle.reading.specs.Scale.{Scaled}
 use Rattle.isotonic.specs.Laws.{CombinesInAnyOrder, EmptyDepartsByZero, JoinedDeparturesCombine, OneDepartsWithin}
 use Rattle.measures.specs.Largest.{largest_departs}
 use Rattle.measures.specs.Values.{distance, largest, smallest, values}
@@ -46,27 +47,29 @@ pub largest_bounded : OneDepartsWithin largest_departs
 largest_bounded r v scaled level = omega (arith, distance_within r v scaled level)
 
 -- whatever bounds the largest distance bounds the distance of every value
-departs_bounds : (rs : List Reading) (v : ℤ) (m : ℕ) → largest_departs rs v ≤ m → AllByRecursion (λ x. distance x v ≤ m) (values rs)
-departs_bounds [] v m h = tt
-departs_bounds (r ∷ rs) v m h = (omega arith, departs_bounds rs v m (omega arith))
+departs_bounds : (rs : List Reading) (v : ℤ) (m : ℕ) → largest_departs rs v ≤ m → All (λ x. distance x v ≤ m) (values rs)
+departs_bounds [] v m h = All-nil (λ x. distance x v ≤ m)
+departs_bounds (r ∷ rs) v m h = All-cons (λ x. distance x v ≤ m) r.value (values rs) (omega arith) (departs_bounds rs v m (omega arith))
 
 -- and whatever bounds the distance of every value bounds the largest
-departs_least : (rs : List Reading) (v : ℤ) (m : ℕ) → AllByRecursion (λ x. distance x v ≤ m) (values rs) → largest_departs rs v ≤ m
+departs_least : (rs : List Reading) (v : ℤ) (m : ℕ) → All (λ x. distance x v ≤ m) (values rs) → largest_departs rs v ≤ m
 departs_least [] v m all = omega arith
-departs_least (r ∷ rs) v m all = omega (arith, all.0, departs_least rs v m all.1)
+departs_least (r ∷ rs) v m all =
+    let one = All-head (λ x. distance x v ≤ m) r.value (values rs) all in
+    let rest = departs_least rs v m (All-tail (λ x. distance x v ≤ m) r.value (values rs) all) in
+    omega arith
 
 -- what two facts of each entry give
 all_both :
-    {X : Type 0} (P Q R : X → Type 0) (xs : List X) → ((x : X) → P x → Q x → R x) → AllByRecursion P xs → AllByRecursion Q xs → AllByRecursion R xs
-all_both P Q R [] f ps qs = tt
-all_both P Q R (x ∷ xs) f ps qs = (f x ps.0 qs.0, all_both P Q R xs f ps.1 qs.1)
+    {X : Type 0} (P Q R : X → Type 0) (xs : List X) → ((x : X) → P x → Q x → R x) → All P xs → All Q xs → All R xs
+all_both P Q R xs f ps qs k d h = f (slice_index_or xs k d) (ps k d h) (qs k d h)
 
 between : (a b : ℕ) (x : ℤ) (n : ℕ) → at a ≤ℤ x → x ≤ℤ at b → distance x (at n) ≤ max (b - n) (n - a)
 between a b x n low high = omega (arith, ints)
 
-module _ (rs : List Reading) (all : AllByRecursion OnScale rs) (some : 0 < length rs) where
+module _ (rs : List Reading) (all : Scaled rs) (some : 0 < length rs) where
   -- each value lies between the ends
-  between_ends : (e : Ends rs) (n : ℕ) → AllByRecursion (λ x. distance x (at n) ≤ max (e.high - n) (n - e.low)) (values rs)
+  between_ends : (e : Ends rs) (n : ℕ) → All (λ x. distance x (at n) ≤ max (e.high - n) (n - e.low)) (values rs)
   between_ends e n =
       all_both (λ x. smallest (values rs) ≤ℤ x) (λ x. x ≤ℤ largest (values rs)) (λ x. distance x (at n) ≤ max (e.high - n) (n - e.low)) (values rs)
       (λ x low high. between e.low e.high x n (subst (λ z. z ≤ℤ x) e.lowest low) (subst (λ z. x ≤ℤ z) e.highest high))

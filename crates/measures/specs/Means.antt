@@ -3,11 +3,11 @@ use Rattle.std.specs.Prelude.{◌≡◌, ℕ, suc, ◌+◌, ◌-◌, ◌*◌, �
 use Rattle.std.proofs.Common.{inl, inr, sym, ap, subst, ◌∙◌, mul-le-mul, mul-le-mul_left, arith}
 use borrow.Author.Differences.{down, product_is, up}
 use Rattle.std.proofs.lemmas.Int.{ints}
+use Rattle.std.proofs.lemmas.List.Elements.{All-head, All-tail}
 use Rattle.std.proofs.lemmas.List.Sums.{sum_by-cons}
 use Rattle.std.proofs.lemmas.Bool.{cases_Bool, cases_lt, cond-false, cond-true, leb-false, leb-true}
-use Rattle.std.specs.List.{AllByRecursion}
 use Rattle.reading.specs.declared.scale.Reading.{Reading}
-use Rattle.reading.specs.Scale.{Level, OnScale}
+use Rattle.reading.specs.Scale.{Level, OnScale, Scaled}
 use Rattle.isotonic.specs.Bounds.{one_most}
 use Rattle.isotonic.specs.Scales.{level_bounds, value_level, weight_bounds}
 use Rattle.measures.specs.Squared.{place_of, squared_cost, squared_prefers, weighted_places, weighted_sum}
@@ -49,12 +49,12 @@ cost_step :
 cost_step r n scaled = omega (arith, ap (λ z. r.weight * z) (square_step r.value (place_of r) n (value_placed r scaled)))
 
 total_step :
-    (rs : List Reading) (n : ℕ) → AllByRecursion OnScale rs
+    (rs : List Reading) (n : ℕ) → Scaled rs
     → placed_cost squared_cost rs (suc n) + 2 * weighted_places rs ≡ placed_cost squared_cost rs n + (2 * n + 1) * whole_weight rs
 total_step [] n all = omega arith
 total_step (r ∷ rs) n all =
-    let rest = total_step rs n all.1 in
-    let one = cost_step r n all.0 in
+    let rest = total_step rs n (All-tail OnScale r rs all) in
+    let one = cost_step r n (All-head OnScale r rs all) in
     let weights = ap (λ w. (2 * n + 1) * w) (sum_by-cons (λ s. s.weight) r rs) in
     omega
     (arith, sum_by-cons (λ s. squared_cost s (at n)) r rs, sum_by-cons (λ s. squared_cost s (at (suc n))) r rs, sum_by-cons (λ s. s.weight * place_of s) r rs)
@@ -110,23 +110,23 @@ nearest_mean z weight sum some shifted =
           (suc q, cond-false _ _ _ e ∙ next, mean_between sum weight (suc q) (omega arith) (omega arith))
     ]
 
-sum_shifted : (rs : List Reading) → AllByRecursion OnScale rs → weighted_sum rs +ℤ pos (30000 * whole_weight rs) ≡ pos (weighted_places rs)
+sum_shifted : (rs : List Reading) → Scaled rs → weighted_sum rs +ℤ pos (30000 * whole_weight rs) ≡ pos (weighted_places rs)
 sum_shifted [] all = refl
 sum_shifted (r ∷ rs) all =
-    let rest = sum_shifted rs all.1 in
-    let here : up r.value + 30000 ≡ place_of r + down r.value = omega (arith, ints, value_placed r all.0) in
+    let rest = sum_shifted rs (All-tail OnScale r rs all) in
+    let here : up r.value + 30000 ≡ place_of r + down r.value = omega (arith, ints, value_placed r (All-head OnScale r rs all)) in
     let times = ap (λ z. r.weight * z) here in
     omega
     (arith, ints, product_is (pos r.weight) r.value, sum_by-cons (λ s. s.weight) r rs, sum_by-cons (λ s. s.weight * place_of s) r rs)
 
 -- no place in the list is above the last
-pub places_within : (rs : List Reading) → AllByRecursion OnScale rs → weighted_places rs ≤ top * whole_weight rs
+pub places_within : (rs : List Reading) → Scaled rs → weighted_places rs ≤ top * whole_weight rs
 places_within [] all = omega arith
 places_within (r ∷ rs) all =
     omega
-    (arith, places_within rs all.1, mul-le-mul_left r.weight (place_within r all.0), sum_by-cons (λ s. s.weight) r rs, sum_by-cons (λ s. s.weight * place_of s) r rs)
+    (arith, places_within rs (All-tail OnScale r rs all), mul-le-mul_left r.weight (place_within r (All-head OnScale r rs all)), sum_by-cons (λ s. s.weight) r rs, sum_by-cons (λ s. s.weight * place_of s) r rs)
 
-module _ (rs : List Reading) (all : AllByRecursion OnScale rs) (some : 0 < length rs) where
+module _ (rs : List Reading) (all : Scaled rs) (some : 0 < length rs) where
   -- what is preferred is the mean's place
   prefers_mean : (p : ℕ) × (squared_prefers rs ≡ at p) × Mean (weighted_places rs) (whole_weight rs) p
   prefers_mean = nearest_mean (weighted_sum rs) (whole_weight rs) (weighted_places rs) (whole_positive rs all some) (sum_shifted rs all)

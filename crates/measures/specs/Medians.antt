@@ -1,13 +1,13 @@
 -- The weighted median: it is the first level at which the weighted absolute distances add up to the least.
 use Rattle.std.specs.Prelude.{◌≡◌, ℕ, zero, suc, ◌+◌, ◌*◌, ◌<◌, ◌≤◌, Bool, true, false, cond, ◌⊎◌, List, [], ◌∷◌, length, ℤ, pos, ◌-ℤ◌, ◌≤ℤ◌, ◌<ℤ◌, filter, int_le, refl}
 use Rattle.std.proofs.Common.{inl, inr, ⊎_elim, sym, ap, subst, ◌∙◌, mul-le-mul, arith}
-use Rattle.std.proofs.ByRecursion.{all_kept_by, kept_by_passes}
 use Rattle.std.proofs.lemmas.Int.{ints, by_lt_z}
+use Rattle.std.proofs.lemmas.List.Elements.{All-filter, All-head, All-nil, All-tail, filter_passes}
 use Rattle.std.proofs.lemmas.List.Sums.{sum_by-cons, sum_by-le-sum_by}
 use Rattle.std.proofs.lemmas.Bool.{both_ways, cases_lt, cond_both, cond-false, cond-true, leb-true, le-leb}
-use Rattle.std.specs.List.{AllByRecursion}
+use Rattle.std.specs.List.{All}
 use Rattle.reading.specs.declared.scale.Reading.{Reading}
-use Rattle.reading.specs.Scale.{Level, OnScale}
+use Rattle.reading.specs.Scale.{Level, OnScale, Scaled}
 use Rattle.isotonic.specs.Bounds.{one_most}
 use Rattle.isotonic.specs.Scales.{level_bounds, value_level, weight_bounds}
 use Rattle.measures.specs.Absolute.{absolute_cost, absolute_prefers, counted, reaches_half, weight_up_to}
@@ -73,11 +73,11 @@ absolute_small r v scaled level = omega (arith, mul-le-mul (weight_bounds r scal
 
 -- z is not above any value that passes: then it is not above v, if v passes and is a value; else going up to v adds nothing to the weight
 up_to_step :
-    (rs : List Reading) (v z : ℤ) (p : ℤ → Bool) → p v ≡ true → AllByRecursion (λ y. z ≤ℤ y) (filter p (values rs))
+    (rs : List Reading) (v z : ℤ) (p : ℤ → Bool) → p v ≡ true → All (λ y. z ≤ℤ y) (filter p (values rs))
     → (z ≤ℤ v) ⊎ (weight_up_to rs v ≡ weight_up_to rs (v -ℤ pos 1))
 up_to_step [] v z p passes all = inr refl
 up_to_step (r ∷ rs) v z p passes all =
-    let rest : AllByRecursion (λ y. z ≤ℤ y) (filter p (values rs)) = kept_rest (p r.value) all in
+    let rest : All (λ y. z ≤ℤ y) (filter p (values rs)) = kept_rest (p r.value) all in
     ⊎_elim inl
     (λ e.
     by_lt_z r.value v
@@ -91,29 +91,29 @@ up_to_step (r ∷ rs) v z p passes all =
     (up_to_step rs v z p passes rest)
   where
     kept_rest :
-        (b : Bool) → AllByRecursion (λ y. z ≤ℤ y) (cond b (r.value ∷ filter p (values rs)) (filter p (values rs))) → AllByRecursion (λ y. z ≤ℤ y) (filter p (values rs))
-    kept_rest true h = h.1
+        (b : Bool) → All (λ y. z ≤ℤ y) (cond b (r.value ∷ filter p (values rs)) (filter p (values rs))) → All (λ y. z ≤ℤ y) (filter p (values rs))
+    kept_rest true h = All-tail (λ y. z ≤ℤ y) r.value (filter p (values rs)) h
     kept_rest false h = h
 
-    kept_first : (b : Bool) → b ≡ true → AllByRecursion (λ y. z ≤ℤ y) (cond b (r.value ∷ filter p (values rs)) (filter p (values rs))) → z ≤ℤ r.value
-    kept_first true e h = h.0
+    kept_first : (b : Bool) → b ≡ true → All (λ y. z ≤ℤ y) (cond b (r.value ∷ filter p (values rs)) (filter p (values rs))) → z ≤ℤ r.value
+    kept_first true e h = All-head (λ y. z ≤ℤ y) r.value (filter p (values rs)) h
     kept_first false e h = absurd (both_ways false refl e)
 
     more : weight_up_to rs v ≡ weight_up_to rs (v -ℤ pos 1) → counted r v ≡ counted r (v -ℤ pos 1) → weight_up_to (r ∷ rs) v ≡ weight_up_to (r ∷ rs) (v -ℤ pos 1)
     more e f = omega (arith, sum_by-cons (λ s. counted s v) r rs, sum_by-cons (λ s. counted s (v -ℤ pos 1)) r rs)
 
 -- no value lies below the lowest level, and none above the highest
-none_below : (rs : List Reading) → AllByRecursion OnScale rs → weight_up_to rs (at 0 -ℤ pos 1) ≡ 0
+none_below : (rs : List Reading) → Scaled rs → weight_up_to rs (at 0 -ℤ pos 1) ≡ 0
 none_below [] all = refl
 none_below (r ∷ rs) all =
-    let one = counted_above r (at 0 -ℤ pos 1) (omega (arith, ints, level_bounds r.value (value_level r all.0))) in
-    omega (arith, none_below rs all.1, sum_by-cons (λ s. counted s (at 0 -ℤ pos 1)) r rs)
+    let one = counted_above r (at 0 -ℤ pos 1) (omega (arith, ints, level_bounds r.value (value_level r (All-head OnScale r rs all)))) in
+    omega (arith, none_below rs (All-tail OnScale r rs all), sum_by-cons (λ s. counted s (at 0 -ℤ pos 1)) r rs)
 
-pub all_below : (rs : List Reading) → AllByRecursion OnScale rs → weight_up_to rs (at top) ≡ whole_weight rs
+pub all_below : (rs : List Reading) → Scaled rs → weight_up_to rs (at top) ≡ whole_weight rs
 all_below [] all = refl
 all_below (r ∷ rs) all =
-    let one = counted_below r (at top) (omega (arith, ints, level_bounds r.value (value_level r all.0))) in
-    omega (arith, all_below rs all.1, sum_by-cons (λ s. counted s (at top)) r rs, sum_by-cons (λ s. s.weight) r rs)
+    let one = counted_below r (at top) (omega (arith, ints, level_bounds r.value (value_level r (All-head OnScale r rs all)))) in
+    omega (arith, all_below rs (All-tail OnScale r rs all), sum_by-cons (λ s. counted s (at top)) r rs, sum_by-cons (λ s. s.weight) r rs)
 
 pub up_to_rises : (rs : List Reading) (u v : ℤ) → u ≤ℤ v → weight_up_to rs u ≤ weight_up_to rs v
 up_to_rises rs u v h = sum_by-le-sum_by (λ s. counted s u) (λ s. counted s v) rs (λ s. counted_rises s s u v refl h (omega (arith, ints)))
@@ -124,10 +124,10 @@ pub record Median (rs : List Reading) (p : ℕ) : Type 0 where
   pub reached : whole_weight rs ≤ 2 * weight_up_to rs (at p)
   pub missed : (n : ℕ) → n < p → 2 * weight_up_to rs (at n) < whole_weight rs
 
-module _ (rs : List Reading) (all : AllByRecursion OnScale rs) (some : 0 < length rs) where
+module _ (rs : List Reading) (all : Scaled rs) (some : 0 < length rs) where
   -- what is below every value that reaches half is below every level that does
   bounds_halves :
-      (z : ℤ) → AllByRecursion (λ y. z ≤ℤ y) (filter (reaches_half rs) (values rs)) → (n : ℕ) → whole_weight rs ≤ 2 * weight_up_to rs (at n) → z ≤ℤ at n
+      (z : ℤ) → All (λ y. z ≤ℤ y) (filter (reaches_half rs) (values rs)) → (n : ℕ) → whole_weight rs ≤ 2 * weight_up_to rs (at n) → z ≤ℤ at n
   bounds_halves z low zero half =
       ⊎_elim (λ h. h)
       (λ e. absurd (omega (arith, whole_positive rs all some, none_below rs all)))
@@ -142,7 +142,7 @@ module _ (rs : List Reading) (all : AllByRecursion OnScale rs) (some : 0 < lengt
 
   some_kept : (ks : List ℤ) → ks ≡ filter (reaches_half rs) (values rs) → 0 < length ks
   some_kept [] e =
-      let high = bounds_halves (pos 30001) (subst (AllByRecursion (λ y. pos 30001 ≤ℤ y)) e tt) top (omega (arith, all_below rs all)) in
+      let high = bounds_halves (pos 30001) (subst (All (λ y. pos 30001 ≤ℤ y)) e (All-nil (λ y. pos 30001 ≤ℤ y))) top (omega (arith, all_below rs all)) in
       absurd (omega (arith, ints, high))
   some_kept (k ∷ ks) e = omega arith
 
@@ -151,9 +151,9 @@ module _ (rs : List Reading) (all : AllByRecursion OnScale rs) (some : 0 < lengt
   prefers_median =
       let kept = filter (reaches_half rs) (values rs) in
       let some_k = some_kept kept refl in
-      let level : Level (smallest kept) = smallest_holds Level kept some_k (all_kept_by (reaches_half rs) Level (values rs) (values_levels rs all)) in
+      let level : Level (smallest kept) = smallest_holds Level kept some_k (All-filter (reaches_half rs) Level (values rs) (values_levels rs all)) in
       let half : reaches_half rs (smallest kept) ≡ true =
-      smallest_holds (λ x. reaches_half rs x ≡ true) kept some_k (kept_by_passes (reaches_half rs) (values rs)) in
+      smallest_holds (λ x. reaches_half rs x ≡ true) kept some_k (filter_passes (reaches_half rs) (values rs)) in
       let place = placed (smallest kept) level in
       (place.0, place.2, median place.0 place.1 place.2 half)
     where
@@ -182,7 +182,7 @@ median_first rs p median =
     }
 
 -- so it is what is preferred
-pub median_preferred : (rs : List Reading) (p : ℕ) → AllByRecursion OnScale rs → 0 < length rs → Median rs p → at p ≡ absolute_prefers rs
+pub median_preferred : (rs : List Reading) (p : ℕ) → Scaled rs → 0 < length rs → Median rs p → at p ≡ absolute_prefers rs
 median_preferred rs p all some median =
     let m = prefers_median rs all some in
     ap at (one_first (placed_cost absolute_cost rs) top p m.0 (median_first rs p median) (median_first rs m.0 m.2)) ∙ sym m.1

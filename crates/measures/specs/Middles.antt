@@ -3,9 +3,8 @@ use Rattle.std.specs.Prelude.{◌≡◌, ℕ, ◌+◌, ◌-◌, ◌/◌, ◌<◌
 use Rattle.std.proofs.Common.{inl, inr, ⊎_elim, sym, subst, ◌∙◌, arith}
 use Rattle.std.proofs.lemmas.List.{map-append}
 use Rattle.std.proofs.lemmas.Int.{ints}
-use Rattle.std.specs.List.{AllByRecursion}
 use Rattle.reading.specs.declared.scale.Reading.{Reading}
-use Rattle.reading.specs.Scale.{Level, OnScale}
+use Rattle.reading.specs.Scale.{Level, Scaled}
 use Rattle.isotonic.specs.Laws.{JoinedPrefersBetween, LiesBetween, NearerDepartsNoMore, RaisedPrefersNoLower}
 use Rattle.isotonic.specs.Smallest.{PrefersSmallestOfLeast}
 use Rattle.measures.specs.Largest.{largest_departs, largest_prefers}
@@ -28,7 +27,7 @@ nearer_middle a b u v ordered (inr h) =
     let high : u ≤ (a + b) / 2 = omega (arith, ints, h.1) in
     omega arith
 
-module _ (rs : List Reading) (all : AllByRecursion OnScale rs) (some : 0 < length rs) where
+module _ (rs : List Reading) (all : Scaled rs) (some : 0 < length rs) where
   -- what is preferred is the place in the middle
   middle_place : (e : Ends rs) → largest_prefers rs ≡ at ((e.low + e.high) / 2)
   middle_place e =
@@ -51,7 +50,7 @@ largest_nearer xs all some =
     )
   where
     placed_nearer :
-        (xs : List Reading) → AllByRecursion OnScale xs → 0 < length xs → (e : Ends xs) (u v : ℤ) (a b : ℕ) → u ≡ at a → v ≡ at b
+        (xs : List Reading) → Scaled xs → 0 < length xs → (e : Ends xs) (u v : ℤ) (a b : ℕ) → u ≡ at a → v ≡ at b
         → LiesBetween (at ((e.low + e.high) / 2)) u v → largest_departs xs u ≤ largest_departs xs v
     placed_nearer xs all some e u v a b eu ev lies =
         let there = subst (λ z. LiesBetween (at ((e.low + e.high) / 2)) (at a) z) ev (subst (λ z. LiesBetween (at ((e.low + e.high) / 2)) z v) eu lies) in

@@ -1,13 +1,12 @@
 -- The values of readings on the scale: their smallest and their largest, and what raising values does to these.
 use Rattle.std.specs.Prelude.{◌≡◌, ℕ, ◌<◌, ◌≤◌, List, [], ◌∷◌, length, ℤ, pos, negsuc, ◌≤ℤ◌}
 use Rattle.std.proofs.Common.{sym, subst, arith}
-use Rattle.std.proofs.ByRecursion.{All-map, All-weaker}
 use Rattle.std.proofs.lemmas.List.{length-map}
-use Rattle.std.proofs.lemmas.List.Elements.{length_all_zip}
+use Rattle.std.proofs.lemmas.List.Elements.{All-cons, All-head, All-map, All-nil, All-tail, All-weaker, length_all_zip}
 use Rattle.std.proofs.lemmas.Int.{ints}
-use Rattle.std.specs.List.{AllByRecursion}
+use Rattle.std.specs.List.{All}
 use Rattle.reading.specs.declared.scale.Reading.{Reading}
-use Rattle.reading.specs.Scale.{Level, OnScale}
+use Rattle.reading.specs.Scale.{Level, OnScale, Scaled}
 use Rattle.isotonic.specs.Laws.{NowhereLower}
 use Rattle.isotonic.specs.Scales.{level_bounds, value_level}
 use Rattle.measures.specs.Values.{largest, smallest, values}
@@ -17,14 +16,14 @@ use Rattle.isotonic.specs.Places.{at, placed, top}
 pub some_values : (rs : List Reading) → 0 < length rs → 0 < length (values rs)
 some_values rs some = omega (arith, length-map rs (λ (r : Reading). r.value))
 
-pub values_levels : (rs : List Reading) → AllByRecursion OnScale rs → AllByRecursion Level (values rs)
+pub values_levels : (rs : List Reading) → Scaled rs → All Level (values rs)
 values_levels rs all = All-map Level (λ r. r.value) rs (All-weaker OnScale (λ r. Level r.value) value_level rs all)
 
 -- no value is off the scale of levels
-pub values_below : (rs : List Reading) → AllByRecursion OnScale rs → AllByRecursion (λ x. x ≤ℤ pos 30000) (values rs)
+pub values_below : (rs : List Reading) → Scaled rs → All (λ x. x ≤ℤ pos 30000) (values rs)
 values_below rs all = All-weaker Level (λ x. x ≤ℤ pos 30000) (λ x level. (level_bounds x level).1) (values rs) (values_levels rs all)
 
-pub values_above : (rs : List Reading) → AllByRecursion OnScale rs → AllByRecursion (λ x. negsuc 29999 ≤ℤ x) (values rs)
+pub values_above : (rs : List Reading) → Scaled rs → All (λ x. negsuc 29999 ≤ℤ x) (values rs)
 values_above rs all = All-weaker Level (λ x. negsuc 29999 ≤ℤ x) (λ x level. (level_bounds x level).0) (values rs) (values_levels rs all)
 
 -- the smallest and the largest value, by their places
@@ -36,7 +35,7 @@ pub record Ends (rs : List Reading) : Type 0 where
   pub lowest : smallest (values rs) ≡ at low
   pub highest : largest (values rs) ≡ at high
 
-module _ (rs : List Reading) (all : AllByRecursion OnScale rs) (some : 0 < length rs) where
+module _ (rs : List Reading) (all : Scaled rs) (some : 0 < length rs) where
   lowest_level : Level (smallest (values rs))
   lowest_level = smallest_holds Level (values rs) (some_values rs some) (values_levels rs all)
 
@@ -57,17 +56,21 @@ module _ (rs : List Reading) (all : AllByRecursion OnScale rs) (some : 0 < lengt
       record { low = a.0; high = b.0; ordered = omega (arith, ints, in_order, a.2, b.2); within = b.1; lowest = a.2; highest = b.2 }
 
 module _ (z : ℤ) where
-  raised_above : (xs ys : List Reading) → NowhereLower xs ys → AllByRecursion (λ x. z ≤ℤ x) (values xs) → AllByRecursion (λ y. z ≤ℤ y) (values ys)
-  raised_above [] [] lower all = tt
+  raised_above : (xs ys : List Reading) → NowhereLower xs ys → All (λ x. z ≤ℤ x) (values xs) → All (λ y. z ≤ℤ y) (values ys)
+  raised_above [] [] lower all = All-nil (λ y. z ≤ℤ y)
   raised_above [] (y ∷ ys) lower all = absurd lower
   raised_above (x ∷ xs) [] lower all = absurd lower
-  raised_above (x ∷ xs) (y ∷ ys) lower all = (omega (arith, ints, all.0, lower.0.0), raised_above xs ys lower.1 all.1)
+  raised_above (x ∷ xs) (y ∷ ys) lower all =
+      let one = All-head (λ v. z ≤ℤ v) x.value (values xs) all in
+      All-cons (λ v. z ≤ℤ v) y.value (values ys) (omega (arith, ints, one, lower.0.0)) (raised_above xs ys lower.1 (All-tail (λ v. z ≤ℤ v) x.value (values xs) all))
 
-  raised_below : (xs ys : List Reading) → NowhereLower xs ys → AllByRecursion (λ y. y ≤ℤ z) (values ys) → AllByRecursion (λ x. x ≤ℤ z) (values xs)
-  raised_below [] [] lower all = tt
+  raised_below : (xs ys : List Reading) → NowhereLower xs ys → All (λ y. y ≤ℤ z) (values ys) → All (λ x. x ≤ℤ z) (values xs)
+  raised_below [] [] lower all = All-nil (λ x. x ≤ℤ z)
   raised_below [] (y ∷ ys) lower all = absurd lower
   raised_below (x ∷ xs) [] lower all = absurd lower
-  raised_below (x ∷ xs) (y ∷ ys) lower all = (omega (arith, ints, all.0, lower.0.0), raised_below xs ys lower.1 all.1)
+  raised_below (x ∷ xs) (y ∷ ys) lower all =
+      let one = All-head (λ v. v ≤ℤ z) y.value (values ys) all in
+      All-cons (λ v. v ≤ℤ z) x.value (values xs) (omega (arith, ints, one, lower.0.0)) (raised_below xs ys lower.1 (All-tail (λ v. v ≤ℤ z) y.value (values ys) all))
 
 module _ (xs ys : List Reading) (some : 0 < length xs) (lower : NowhereLower xs ys) where
   -- both ends of raised values are no lower

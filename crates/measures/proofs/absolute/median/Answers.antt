@@ -1,6 +1,5 @@
 use Rattle.std.proofs.Common.{◌≡◌, ◌+◌, ◌-◌, ◌*◌, ◌/◌, ◌≤◌, ap, ◌∙◌, subst, arith, w32, to_z, of_z}
 use Rattle.measures.proofs.Signs.{answered}
-use Rattle.isotonic.specs.Scales.{all_scaled}
 use Rattle.measures.specs.Absolute.{counted, weight_up_to}
 use Rattle.measures.specs.Values.{whole_weight}
 use Rattle.isotonic.proofs.Sums.{sum_within}
@@ -25,7 +24,7 @@ loop-low-preserved c =
 pub returns : goal.returns
 returns c =
     let rows = c.args.sample.list.rows.now in
-    let all = all_scaled rows c.args.sample.list.scaled in
+    let all = c.args.sample.list.scaled in
     let inv = c.loop-low.invariant in
     let whole : c.weight_up_to-whole.result ≡ whole_weight rows = omega (arith, c.weight_up_to-whole.ensures, all_below rows all) in
     let met : c.loop-low.high ≡ c.loop-low.low = omega arith in

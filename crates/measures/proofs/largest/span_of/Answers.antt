@@ -5,7 +5,7 @@ use Rattle.std.specs.Int.{int_max, int_min}
 use Rattle.reading.specs.Scale.{Scaled}
 use Rattle.reading.specs.declared.scale.Reading.{Reading}
 use Rattle.isotonic.proofs.Sums.{none}
-use Rattle.isotonic.specs.Scales.{all_scaled, value_level}
+use Rattle.isotonic.specs.Scales.{value_level}
 use Rattle.measures.specs.Values.{values}
 use Rattle.measures.specs.Extremes.{largest_within, smallest_within}
 use Rattle.measures.proofs.Loops.{fold_step}
@@ -28,7 +28,7 @@ loop-row-preserved c =
 pub returns : goal.returns
 returns c =
     let rows = c.args.sample.list.rows.now in
-    let all = all_scaled rows c.args.sample.list.scaled in
+    let all = c.args.sample.list.scaled in
     let seen = c.rows-rows.result.now in
     let over : length (values seen) ≤ c.loop-row.row-index = omega (arith, length-map seen (λ (r : Reading). r.value), c.loop-row-test.false) in
     let whole = take_all c.loop-row.row-index (values seen) over ∙ ap values c.rows-rows.ensures in

@@ -1,6 +1,5 @@
 use Rattle.std.proofs.Common.{◌*◌, ◌<◌, ◌≤◌, length, refl, ◌∙◌, arith}
 use Rattle.measures.proofs.Signs.{answered}
-use Rattle.isotonic.specs.Scales.{all_scaled}
 use Rattle.isotonic.proofs.Sums.{sum_within}
 use Rattle.measures.specs.Means.{places_within, quotient_preferred}
 use Rattle.measures.specs.Weights.{weight_small, whole_positive}
@@ -13,7 +12,7 @@ bounds :
     × (c.weigh-whole.result.sum ≤ 60000 * c.weigh-whole.result.whole)
 bounds c =
     let rows = c.args.sample.list.rows.now in
-    let all = all_scaled rows c.args.sample.list.scaled in
+    let all = c.args.sample.list.scaled in
     let same = c.weigh-whole.ensures in
     (omega (arith, whole_positive rows all c.args.sample.some), omega (arith, sum_within (λ r. r.weight) 1000 weight_small rows c.args.sample.list.scaled), omega (arith, places_within rows all))
 
@@ -35,11 +34,11 @@ nonzero_div-sum c = omega (arith, bounds c)
 pub level_at-requires : goal.level_at-requires
 level_at-requires c =
     let rows = c.args.sample.list.rows.now in
-    (quotient_preferred rows (all_scaled rows c.args.sample.list.scaled) c.args.sample.some _ _ _ c.weigh-whole.ensures.sum c.weigh-whole.ensures.whole refl).0
+    (quotient_preferred rows c.args.sample.list.scaled c.args.sample.some _ _ _ c.weigh-whole.ensures.sum c.weigh-whole.ensures.whole refl).0
 
 pub returns : goal.returns
 returns c =
     let rows = c.args.sample.list.rows.now in
     let preferred =
-    quotient_preferred rows (all_scaled rows c.args.sample.list.scaled) c.args.sample.some _ _ _ c.weigh-whole.ensures.sum c.weigh-whole.ensures.whole refl in
+    quotient_preferred rows c.args.sample.list.scaled c.args.sample.some _ _ _ c.weigh-whole.ensures.sum c.weigh-whole.ensures.whole refl in
     answered _ _ c.level_at.type_inv c.level_at.ensures ∙ preferred.1
