@@ -1,12 +1,10 @@
 -- Entries put into a list from a place on: where there is room, one at a time, and where there is none.
-use Rattle.std.proofs.Common.{◌≡◌, ℕ, ◌+◌, ◌<◌, ◌≤◌, leb, List, [], ◌∷◌, ◌++◌, length, get_or, take, drop, set, Ok, Err, Result, sym, refl, ap, ◌∙◌, add-zero, add-one, arith}
+use Rattle.std.proofs.Common.{◌≡◌, ℕ, ◌+◌, ◌<◌, ◌≤◌, leb, List, [], ◌∷◌, ◌++◌, length, take, drop, set, sym, refl, ap, ◌∙◌, add-zero, add-one, arith}
 use lib.Seq.{paste}
-use Rattle.std.proofs.lemmas.List.Edits.{paste_all, paste_more, paste-paste}
+use Rattle.std.proofs.lemmas.List.Edits.{paste_all, paste-paste}
 use Rattle.std.proofs.lemmas.List.{set_split, length-append, length-take, length-drop, take-append-drop, take_at}
 use Rattle.std.proofs.lemmas.Bool.{cond-true, cond-false, cond_both, leb-true, le-leb, lt-leb}
-use Rattle.reading.specs.declared.refusals.Refusal.{Refusal}
-use Rattle.reading.specs.declared.refusals.Refusal.TheVariants.{TooLittleRoom}
-use Rattle.reading.specs.Lists.{delivered, filled, fitted, put_from}
+use Rattle.reading.specs.Lists.{put_from}
 
 pub put_fits : {X : Type 0} (n : ℕ) (xs out : List X) → n + length xs ≤ length out → put_from n xs out ≡ take n out ++ (xs ++ drop (n + length xs) out)
 put_fits n xs out h = cond-true (leb (n + length xs) (length out)) _ _ (le-leb _ _ h)
@@ -21,18 +19,6 @@ put_one out i x h = set_split out i x h ∙ ap (λ k. take i out ++ x ∷ drop k
 -- all entries copied one after another
 pub put_all : {X : Type 0} (out : List X) (n : ℕ) (xs : List X) (m : ℕ) → n + length xs ≤ length out → m ≡ length xs → paste out n xs m ≡ put_from n xs out
 put_all out n xs m h e = paste_all out n xs m e ∙ ap (λ k. take n out ++ (xs ++ drop (n + k) out)) e ∙ sym (put_fits n xs out h)
-
-pub fitted_fits : (n room : ℕ) → n ≤ room → Ok n ≡ fitted n room
-fitted_fits n room h = sym (cond-true (leb n room) _ _ (le-leb _ _ h))
-
-pub fitted_over : (n room : ℕ) → room < n → Err (TooLittleRoom n) ≡ fitted n room
-fitted_over n room h = sym (cond-false (leb n room) _ _ (lt-leb _ _ h))
-
-module _ {X : Type 0} (out : List X) (n : ℕ) (xs : List X) (room : n + length xs ≤ length out) (cur : List X) (i : ℕ) (so_far : cur ≡ paste out n xs i) where
-  -- one entry more copied
-  pub copied_more : (x : X) → i < length xs → x ≡ get_or xs i x → set cur (n + i) x ≡ paste out n xs (i + 1)
-  copied_more x h e =
-      ap (λ ys. set ys (n + i) x) so_far ∙ ap (λ y. set (paste out n xs i) (n + i) y) e ∙ paste_more out n xs i x (omega arith) h
 
 -- a list that is put into stays as long as it is
 pub length_put : {X : Type 0} (n : ℕ) (xs out : List X) → length (put_from n xs out) ≡ length out
@@ -54,21 +40,6 @@ put_then out n xs ys m e h =
     ∙ ap (λ k. paste (paste out n xs (length xs)) k ys (length ys)) e
     ∙ paste-paste out n xs ys (length xs) (length ys) refl refl (omega arith)
     ∙ put_all out n (xs ++ ys) (length xs + length ys) (omega arith) (sym q)
-
-module _ {X : Type 0} (given : Result (List X) Refusal) (xs : List X) (granted : given ≡ Ok xs) (n : ℕ) (counted : n ≡ length xs) (out : List X) where
-  counted_room : delivered given out ≡ fitted n (length out)
-  counted_room = ap (λ d. delivered d out) granted ∙ ap (λ k. fitted k (length out)) (sym counted)
-
-  put_front : filled given out ≡ put_from 0 xs out
-  put_front = ap (λ d. filled d out) granted
-
-  -- what was granted and fits is counted and put to the front
-  pub delivery_fits : n ≤ length out → (Ok n ≡ delivered given out) × (put_from 0 xs out ≡ filled given out)
-  delivery_fits h = (fitted_fits n (length out) h ∙ sym counted_room, sym put_front)
-
-  -- what was granted and does not fit is declined and changes nothing
-  pub delivery_over : length out < n → (Err (TooLittleRoom n) ≡ delivered given out) × (out ≡ filled given out)
-  delivery_over h = (fitted_over n (length out) h ∙ sym counted_room, sym (put_front ∙ put_over 0 xs out (omega arith)))
 
 -- what was put to the front is found there
 pub take_put : {X : Type 0} (xs out : List X) (n : ℕ) → n ≡ length xs → n ≤ length out → take n (put_from 0 xs out) ≡ xs
