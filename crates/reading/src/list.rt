@@ -12,16 +12,11 @@ pub struct Readings<'a> {
     ghost scaled: { Scaled rows.now },
 }
 
-// How many rows stand before the first that is off the scale. As a chain it is slower.
+// How many rows stand before the first that is off the scale.
 fn scaled_count(rows: &[Reading]) -> usize
     ensures { result ≡ prefix_len on_scale rows.now }
 {
-    for (end, row) in rows.iter().enumerate() {
-        if !row.is_on_scale() {
-            return end;
-        }
-    }
-    rows.len()
+    rows.iter().take_while(|row| row.is_on_scale()).count()
 }
 
 impl<'a> Readings<'a> {
