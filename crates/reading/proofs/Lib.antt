@@ -1,3 +1,2 @@
 pub mod Places
 pub mod Puts
-pub mod Verdicts
