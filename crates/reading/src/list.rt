@@ -30,6 +30,7 @@ impl<'a> Readings<'a> {
     }
 
     // The rows before the first that is off the scale: all of them where each is on it.
+    #[tactic(auto, using(crate::proofs::Parts::scaled_taken))]
     pub fn of(rows: &'a [Reading]) -> Readings<'a>
         ensures { rows_of result ≡ scaled_front rows.now }
     {
@@ -58,6 +59,7 @@ impl<'a> Readings<'a> {
     }
 
     // The readings at places `first` to `last`, as far as there are any.
+    #[tactic(auto, using(crate::proofs::Parts::stretch_clamped))]
     pub fn stretch(self, first: usize, last: usize) -> Readings<'a>
         ensures { rows_of result ≡ stretch (rows_of self.entry) first last }
     {
