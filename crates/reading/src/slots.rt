@@ -49,7 +49,7 @@ impl<'a, T> Bounded<'a, T> {
     }
 
     // One entry more; answers the count then. Where it does not fit it is refused, and nothing changes.
-    #[tactic(auto, using(crate::proofs::Puts::put_one))]
+    #[tactic(auto, using(std::proofs::lemmas::List::set_split))]
     pub fn push(&mut self, entry: T) -> Result<usize, Refusal>
     where
         T: Drop,

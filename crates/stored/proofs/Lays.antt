@@ -2,7 +2,7 @@
 use Rattle.std.proofs.Common.{◌≡◌, ℕ, ◌+◌, ◌*◌, ◌<◌, ◌≤◌, List, [], ◌++◌, length, get_or, take, Ok, refl, ap, ◌∙◌, arith}
 use Rattle.std.proofs.lemmas.Bool.Decides.{nat_tests}
 use Rattle.std.proofs.lemmas.List.{flat_map_more, length-append, length-take, take_more}
-use Rattle.reading.proofs.Puts.{put_over, put_then, take_put}
+use Rattle.reading.proofs.Puts.{put_then, take_put}
 use Rattle.reading.specs.Lists.{filled, put_from}
 use Rattle.reading.specs.Scale.{limit, Scaled}
 use Rattle.reading.specs.declared.scale.Reading.{Reading}
@@ -48,4 +48,4 @@ module _ (rs : List Reading) (n : ℕ) (out one two three four : List ℕ) (coun
 
 -- and where there is no room for all of it, nothing is laid
 pub none_laid : (rs : List Reading) (out : List ℕ) → length out < 4 + 4 * length rs → filled (storable rs) out ≡ out
-none_laid rs out h = grind (arith, nat_tests, put_over, length_encoded)
+none_laid rs out h = grind (arith, nat_tests, length_encoded)
