@@ -1,12 +1,19 @@
--- How long a heading is, and that it is its texts put down one behind the other.
-use Rattle.std.proofs.Common.{◌≡◌, ℕ, ◌+◌, ◌^◌, ◌<◌, ◌≤◌, List, [], ◌∷◌, ◌++◌, length, codes, decimal, refl, arith}
+-- What a listing goes by, how long its heading is, and the heading put down text by text.
+use Rattle.std.proofs.Common.{◌≡◌, ℕ, ◌+◌, ◌-◌, ◌^◌, ◌<◌, ◌≤◌, List, [], ◌∷◌, ◌++◌, length, take, drop, Ok, codes, decimal, refl, arith}
 use Rattle.std.proofs.lemmas.Fmt.{length-decimal-le}
-use Rattle.std.proofs.lemmas.List.{length-append}
+use Rattle.std.proofs.lemmas.List.{length-append, take_rest}
 use Rattle.reading.specs.Lists.{put_from}
+use Rattle.reading.specs.Results.{then}
 use Rattle.reading.proofs.Puts.{put_then}
+use Rattle.stored.specs.Forms.{decoded}
 use Rattle.listing.specs.declared.letters.Letter.{Letter}
-use Rattle.listing.specs.Letters.{letter_byte}
-use Rattle.listing.specs.Text.{heading}
+use Rattle.listing.specs.Letters.{letter_byte, letter_of}
+use Rattle.listing.specs.Text.{heading, listing_of}
+
+-- it goes by the count of the readings, which the check of the stored profile answers
+pub listing_counted :
+    (input : List ℕ) → listing_of input ≡ then (letter_of input) (λ letter. then (then (decoded (take (length input - 1) (drop 1 input))) (λ rs. Ok (length rs))) (λ n. Ok (heading letter n)))
+listing_counted input = let rest = take_rest input 1 in grind arith
 
 -- how long a heading is, which a word can count
 pub length_heading : (letter : Letter) (n : ℕ) → n < 2 ^ 64 → (length (heading letter n) ≡ 20 + length (decimal n)) × (length (heading letter n) ≤ 40)

@@ -42,6 +42,7 @@ impl Heading {
 }
 
 // Writes the listing of a letter and the stored profile behind it, and answers its length.
+#[tactic(auto, using(crate::proofs::Listings::listing_counted))]
 pub fn listing(input: &[u8], output: &mut [u8]) -> Result<usize, Refusal>
     ensures value { result ≡ delivered (listing_of input.now) output.old }
     ensures after { output.new ≡ filled (listing_of input.now) output.old }
