@@ -70,11 +70,9 @@ impl<C: Additive> Measure for C {
     fn departure(self, list: Readings<'_>, level: i32) -> Option<u64>
         ensures { result ≡ departure_answer (total (C.costs self)) (rows_of list.entry) level }
     {
-        // Not `then`: its closure would want clauses of its own.
-        if !has_departure(list, level) {
-            return None;
-        }
-        Some(added(self, list, level))
+        has_departure(list, level)
+            .then_some(list)
+            .map(|list| added(self, list, level))
     }
 
     fn combination(self, first: u64, second: u64) -> Option<u64>

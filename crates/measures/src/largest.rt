@@ -82,11 +82,9 @@ impl Measure for Largest {
     fn departure(self, list: Readings<'_>, level: i32) -> Option<u64>
         ensures { result ≡ departure_answer largest_departs (rows_of list.entry) level }
     {
-        // Not `then`: its closure would want clauses of its own.
-        if !has_departure(list, level) {
-            return None;
-        }
-        Some(farthest(list, level))
+        has_departure(list, level)
+            .then_some(list)
+            .map(|list| farthest(list, level))
     }
 
     fn combination(self, first: u64, second: u64) -> Option<u64>
