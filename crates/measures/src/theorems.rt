@@ -38,6 +38,7 @@ pub fn preferred_is_smallest_of_least()
 {}
 
 // What the definitions call smallest, largest, floored and nearest is that.
+#[tactic(auto, using(crate::specs::Extremes::extremes_reached, crate::specs::Quotients::nearest_nearest))]
 pub fn definitions_mean_what_they_say()
     ensures extremes { ExtremesAreReached }
     ensures floored { FlooredIsLargestNotAbove }
