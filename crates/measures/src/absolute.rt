@@ -35,6 +35,7 @@ fn weight_up_to(sample: Sample<'_>, level: i32) -> u64
 
 // The smallest level with at least half of the weight up to it, by bisecting the levels. The library bisects
 // slices alone.
+#[tactic(auto, using(crate::proofs::Counts::up_to_few, crate::proofs::Counts::prefers_place, crate::proofs::Counts::half_tells))]
 fn median(sample: Sample<'_>) -> i32
     ensures { result ≡ absolute_prefers (sampled sample.entry) }
 {

@@ -35,6 +35,7 @@ struct Span {
 }
 
 // One pass for both, so a loop.
+#[tactic(auto, using(crate::proofs::Loops::low_whole, crate::proofs::Loops::high_whole))]
 fn span_of(sample: Sample<'_>) -> Span
     ensures low { result.low ≡ smallest (values (sampled sample.entry)) }
     ensures high { result.high ≡ largest (values (sampled sample.entry)) }
@@ -50,6 +51,7 @@ fn span_of(sample: Sample<'_>) -> Span
 }
 
 // The largest whole number not above half the sum of the two ends, also below zero.
+#[tactic(auto, using(crate::proofs::Halves::sum_fits, crate::proofs::Halves::half_preferred))]
 fn middle(sample: Sample<'_>) -> i32
     ensures { result ≡ largest_prefers (sampled sample.entry) }
 {

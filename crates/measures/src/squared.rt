@@ -34,6 +34,7 @@ fn weighted_place(row: Reading) -> u64
 }
 
 // One pass for both, so a loop.
+#[tactic(auto, using(crate::proofs::Sizes::whole_next, crate::proofs::Sizes::places_next))]
 fn weigh(sample: Sample<'_>) -> Weighed
     ensures whole { result.whole ≡ whole_weight (sampled sample.entry) }
     ensures sum { result.sum ≡ weighted_places (sampled sample.entry) }
@@ -49,6 +50,7 @@ fn weigh(sample: Sample<'_>) -> Weighed
 }
 
 // The whole number nearest the weighted mean; a half goes to the lower one.
+#[tactic(auto, using(crate::proofs::Sizes::whole_few, crate::proofs::Sizes::places_few, crate::specs::Weights::whole_positive, crate::proofs::Sizes::quotient_within, crate::proofs::Sizes::prefers_quotient))]
 fn mean(sample: Sample<'_>) -> i32
     ensures { result ≡ squared_prefers (sampled sample.entry) }
 {

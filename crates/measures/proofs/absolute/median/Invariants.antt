@@ -1,13 +1,13 @@
-use Rattle.std.proofs.Common.{ℕ, ◌-◌, ◌*◌, ◌<◌, ◌≤◌}
-use Rattle.measures.specs.Absolute.{weight_up_to}
-use Rattle.isotonic.specs.Places.{at, top}
+use Rattle.std.proofs.Common.{◌-◌, ◌≤◌}
+use Rattle.isotonic.specs.Places.{top}
+use Rattle.measures.proofs.Counts.{median_place}
 use Rattle.measures.proofs.absolute.median.Given as goal
 
--- half is reached at `high`, and at no level below `low`
+-- the median lies from `low` to `high`
 abbrev pub invariant-loop-low : goal.invariant-loop-low
 invariant-loop-low l =
-    (l.low ≤ l.high) × (l.high ≤ top) × (l.whole ≤ 2 * weight_up_to l.sample.list.rows.now (at l.high))
-    × ((n : ℕ) → n < l.low → 2 * weight_up_to l.sample.list.rows.now (at n) < l.whole)
+    let place = median_place l.sample.list.rows.now in
+    record { from : l.low ≤ place; to : place ≤ l.high; within : l.high ≤ top }
 
 abbrev pub decreases-loop-low : goal.decreases-loop-low
 decreases-loop-low l = l.high - l.low
