@@ -1,7 +1,6 @@
 -- Costs over the places 0 to top that bend upwards, and the first place at which such a cost is least.
 use Rattle.std.specs.Prelude.{◌≡◌, ℕ, zero, suc, ◌+◌, ◌-◌, ◌<◌, ◌≤◌, ◌≢◌, refl}
-use Rattle.std.proofs.Common.{inl, inr, arith}
-use Rattle.std.proofs.lemmas.Bool.{cases_lt}
+use Rattle.std.proofs.Common.{arith}
 
 -- the change from one place to the next never shrinks
 abbrev pub Bends : (ℕ → ℕ) → ℕ → Type 0
@@ -16,32 +15,26 @@ pub record First (D : ℕ → ℕ) (top p : ℕ) : Type 0 where
 module _ (D : ℕ → ℕ) (top p : ℕ) (bends : Bends D top) (first : First D top p) where
   -- from the first least place on the cost never falls
   rises_from : (k n : ℕ) → n ≡ p + k → n < top → D n ≤ D (suc n)
-  rises_from zero n e h = let same : n ≡ p = omega arith in rw same (first.stays (omega arith))
+  rises_from zero n e h = grind (arith, first.stays)
   rises_from (suc k) zero e h = absurd (omega arith)
-  rises_from (suc k) (suc n) e h =
-      let before = rises_from k n (omega arith) (omega arith) in
-      omega (arith, bends n h)
+  rises_from (suc k) (suc n) e h = omega (arith, rises_from k n (omega arith) (omega arith), bends n h)
 
   pub rises_after : (n : ℕ) → p ≤ n → n < top → D n ≤ D (suc n)
   rises_after n low high = rises_from (n - p) n (omega arith) high
 
   up_to : (k u v : ℕ) → v ≡ u + k → p ≤ u → v ≤ top → D u ≤ D v
-  up_to zero u v e low high = let same : v ≡ u = omega arith in rw same (omega arith)
+  up_to zero u v e low high = grind arith
   up_to (suc k) u zero e low high = absurd (omega arith)
-  up_to (suc k) u (suc v) e low high =
-      let before = up_to k u v (omega arith) low (omega arith) in
-      omega (arith, rises_after v (omega arith) high)
+  up_to (suc k) u (suc v) e low high = omega (arith, up_to k u v (omega arith) low (omega arith), rises_after v (omega arith) high)
 
   -- nearer to it, from above, the cost is no more
   pub nearer_above : (u v : ℕ) → p ≤ u → u ≤ v → v ≤ top → D u ≤ D v
   nearer_above u v low h high = up_to (v - u) u v (omega arith) low high
 
   down_to : (k u v : ℕ) → u ≡ v + k → u ≤ p → D u ≤ D v
-  down_to zero u v e low = let same : u ≡ v = omega arith in rw same (omega arith)
+  down_to zero u v e low = grind arith
   down_to (suc k) zero v e low = absurd (omega arith)
-  down_to (suc k) (suc u) v e low =
-      let before = down_to k u v (omega arith) (omega arith) in
-      omega (arith, first.falls u low)
+  down_to (suc k) (suc u) v e low = omega (arith, down_to k u v (omega arith) (omega arith), first.falls u low)
 
   -- and from below
   pub nearer_below : (u v : ℕ) → v ≤ u → u ≤ p → D u ≤ D v
@@ -50,14 +43,10 @@ module _ (D : ℕ → ℕ) (top p : ℕ) (bends : Bends D top) (first : First D 
   -- it is least there, and at no place before
   pub first_least : (n : ℕ) → n ≤ top → (D p ≤ D n) × (D n ≡ D p → p ≤ n)
   first_least n h =
-      elim (cases_lt n p) [
-        | inl before ↦
-            let drop = first.falls n before in
-            let rest = nearer_below (suc n) (suc n) (omega arith) before in
-            let down = nearer_below p (suc n) before (omega arith) in
-            (omega arith, λ same. omega arith)
-        | inr from ↦ (nearer_above p n (omega arith) from h, λ same. from)
-      ]
+      let drop = first.falls n in
+      let down = nearer_below p (suc n) in
+      let up = nearer_above p n in
+      (grind arith, λ same. grind arith)
 
 -- the first least place of two costs together is neither before both nor after both
 module _ (D E F : ℕ → ℕ) (top p q m : ℕ) (both : (n : ℕ) → F n ≡ D n + E n) (bends_D : Bends D top) (bends_E : Bends E top)
@@ -86,14 +75,11 @@ module _ (D E F : ℕ → ℕ) (top p q m : ℕ) (both : (n : ℕ) → F n ≡ D
 pub no_earlier :
     (D E : ℕ → ℕ) (top p q : ℕ) → First D top p → First E top q → ((n : ℕ) → n < top → E (suc n) + D n ≤ E n + D (suc n)) → p ≤ q
 no_earlier D E top p q first_D first_E change =
-    elim (cases_lt q p) [
-      | inr h ↦ h
-      | inl h ↦
-          let t = first_D.within in
-          let d = first_D.falls q h in
-          let e = first_E.stays (omega arith) in
-          absurd (omega (arith, change q (omega arith)))
-    ]
+    let t = first_D.within in
+    let d = first_D.falls q in
+    let e = first_E.stays in
+    let c = change q in
+    grind arith
 
 -- a cost has one first least place
 pub one_first : (D : ℕ → ℕ) (top p q : ℕ) → First D top p → First D top q → p ≡ q

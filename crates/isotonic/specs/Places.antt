@@ -1,5 +1,5 @@
 -- Levels counted from the lowest, as the places 0 to 60,000.
-use Rattle.std.proofs.Common.{inl, inr, arith}
+use Rattle.std.proofs.Common.{arith}
 use Rattle.std.specs.Prelude.{◌≡◌, ℕ, ◌≤◌, ℤ, pos, ◌+ℤ◌, ◌-ℤ◌, ◌≤ℤ◌, unsigned_abs}
 use Rattle.std.proofs.lemmas.Int.{ints}
 use Rattle.reading.specs.Scale.{Level}
@@ -21,12 +21,14 @@ placed v h =
     (unsigned_abs (v +ℤ pos 30000), omega (arith, ints), omega (arith, ints))
 
 pub at_level : (n : ℕ) → n ≤ top → Level (at n)
-at_level n h = level_from (at n) (omega (arith, ints)) (omega (arith, ints))
+at_level n h = grind (arith, ints)
 
 pub at_le : (m n : ℕ) → m ≤ n → at m ≤ℤ at n
 at_le m n h = omega (arith, ints)
 
 -- a number between two levels is a level
 pub between_levels : (p u v : ℤ) → Level p → Level v → LiesBetween p u v → Level u
-between_levels p u v lp lv (inl h) = level_from u (omega (arith, ints, level_bounds p lp, h.0)) (omega (arith, ints, level_bounds v lv, h.1))
-between_levels p u v lp lv (inr h) = level_from u (omega (arith, ints, level_bounds v lv, h.0)) (omega (arith, ints, level_bounds p lp, h.1))
+between_levels p u v lp lv lies =
+    let x = level_bounds p lp in
+    let y = level_bounds v lv in
+    level_from u (grind (arith, ints)) (grind (arith, ints))
