@@ -1,11 +1,12 @@
 -- The weighted mean: the whole number nearest to it is the first level at which the weighted squares add up to the least.
-use Rattle.std.specs.Prelude.{◌≡◌, ℕ, suc, ◌+◌, ◌-◌, ◌*◌, ◌/◌, ◌%◌, ◌<◌, ◌≤◌, List, [], ◌∷◌, length, ℤ, pos, ◌+ℤ◌, nat_le, refl}
-use Rattle.std.proofs.Common.{inl, inr, sym, ap, subst, ◌∙◌, mul-le-mul, mul-le-mul_left, arith}
+use Rattle.std.specs.Prelude.{◌≡◌, ℕ, suc, ◌+◌, ◌-◌, ◌*◌, ◌/◌, ◌<◌, ◌≤◌, List, [], ◌∷◌, length, ℤ, pos, ◌+ℤ◌, refl}
+use Rattle.std.proofs.Common.{inl, inr, ap, mul-le-mul, mul-le-mul_left, arith}
 use borrow.Author.Differences.{down, product_is, up}
 use Rattle.std.proofs.lemmas.Int.{ints}
 use Rattle.std.proofs.lemmas.List.Elements.{All-head, All-tail}
 use Rattle.std.proofs.lemmas.List.Sums.{sum_by-cons}
-use Rattle.std.proofs.lemmas.Bool.{cases_Bool, cases_lt, cond-false, cond-true, leb-false, leb-true}
+use Rattle.std.proofs.lemmas.Bool.Decides.{nat_tests}
+use Rattle.std.proofs.lemmas.Bool.{cases_lt}
 use Rattle.reading.specs.declared.scale.Reading.{Reading}
 use Rattle.reading.specs.Scale.{Level, OnScale, Scaled}
 use Rattle.isotonic.specs.Bounds.{one_most}
@@ -32,14 +33,12 @@ square_step :
 square_step v x n here =
     elim (cases_lt n x) [
       | inl h ↦
-          let k = x - suc n in
-          let d : distance v (at n) ≡ suc k = omega (arith, ints) in
-          let e : distance v (at (suc n)) ≡ k = omega (arith, ints) in
+          let d : distance v (at n) ≡ suc (distance v (at (suc n))) = omega (arith, ints) in
+          let e : distance v (at (suc n)) ≡ x - suc n = omega (arith, ints) in
           rw (d, e) (omega arith)
       | inr h ↦
-          let k = n - x in
-          let d : distance v (at n) ≡ k = omega (arith, ints) in
-          let e : distance v (at (suc n)) ≡ suc k = omega (arith, ints) in
+          let d : distance v (at n) ≡ n - x = omega (arith, ints) in
+          let e : distance v (at (suc n)) ≡ suc (n - x) = omega (arith, ints) in
           rw (d, e) (omega arith)
     ]
 
@@ -56,8 +55,7 @@ total_step (r ∷ rs) n all =
     let rest = total_step rs n (All-tail OnScale r rs all) in
     let one = cost_step r n (All-head OnScale r rs all) in
     let weights = ap (λ w. (2 * n + 1) * w) (sum_by-cons (λ s. s.weight) r rs) in
-    omega
-    (arith, sum_by-cons (λ s. squared_cost s (at n)) r rs, sum_by-cons (λ s. squared_cost s (at (suc n))) r rs, sum_by-cons (λ s. s.weight * place_of s) r rs)
+    omega (arith, sum_by-cons {X = Reading})
 
 pub squared_bends : CostBends squared_cost
 squared_bends r scaled n h = omega (arith, cost_step r n scaled, cost_step r (suc n) scaled)
@@ -100,14 +98,11 @@ nearest_mean z weight sum some shifted =
     let q = sum / weight in
     let floor = floored_shifted z weight 30000 sum some shifted in
     let rest = left_over_shifted z weight 30000 sum some shifted in
-    elim (cases_Bool (nat_le (2 * left_over z weight) weight)) [
-      | inl e ↦
-          let low : 2 * (sum % weight) ≤ weight = omega (arith, leb-true _ _ e, rest) in
-          (q, cond-true _ _ _ e ∙ floor, mean_between sum weight q (omega arith) (omega arith))
-      | inr e ↦
-          let high : weight < 2 * (sum % weight) = omega (arith, leb-false _ _ e, rest) in
+    elim (cases_lt weight (2 * left_over z weight)) [
+      | inl high ↦
           let next : floored z weight +ℤ pos 1 ≡ at (suc q) = omega (arith, ints, floor) in
-          (suc q, cond-false _ _ _ e ∙ next, mean_between sum weight (suc q) (omega arith) (omega arith))
+          (suc q, grind (arith, nat_tests), mean_between sum weight (suc q) (omega arith) (omega arith))
+      | inr low ↦ (q, grind (arith, nat_tests), mean_between sum weight q (omega arith) (omega arith))
     ]
 
 sum_shifted : (rs : List Reading) → Scaled rs → weighted_sum rs +ℤ pos (30000 * whole_weight rs) ≡ pos (weighted_places rs)
@@ -116,15 +111,13 @@ sum_shifted (r ∷ rs) all =
     let rest = sum_shifted rs (All-tail OnScale r rs all) in
     let here : up r.value + 30000 ≡ place_of r + down r.value = omega (arith, ints, value_placed r (All-head OnScale r rs all)) in
     let times = ap (λ z. r.weight * z) here in
-    omega
-    (arith, ints, product_is (pos r.weight) r.value, sum_by-cons (λ s. s.weight) r rs, sum_by-cons (λ s. s.weight * place_of s) r rs)
+    omega (arith, ints, product_is (pos r.weight) r.value, sum_by-cons {X = Reading})
 
 -- no place in the list is above the last
 pub places_within : (rs : List Reading) → Scaled rs → weighted_places rs ≤ top * whole_weight rs
 places_within [] all = omega arith
 places_within (r ∷ rs) all =
-    omega
-    (arith, places_within rs (All-tail OnScale r rs all), mul-le-mul_left r.weight (place_within r (All-head OnScale r rs all)), sum_by-cons (λ s. s.weight) r rs, sum_by-cons (λ s. s.weight * place_of s) r rs)
+    omega (arith, places_within rs (All-tail OnScale r rs all), mul-le-mul_left r.weight (place_within r (All-head OnScale r rs all)), sum_by-cons {X = Reading})
 
 module _ (rs : List Reading) (all : Scaled rs) (some : 0 < length rs) where
   -- what is preferred is the mean's place
@@ -133,10 +126,8 @@ module _ (rs : List Reading) (all : Scaled rs) (some : 0 < length rs) where
 
   mean_within : (p : ℕ) → Mean (weighted_places rs) (whole_weight rs) p → p ≤ top
   mean_within p mean =
-      elim (cases_lt top p) [
-        | inl h ↦ absurd (omega (arith, mean.missed top h, places_within rs all, whole_positive rs all some))
-        | inr h ↦ h
-      ]
+      let missed = mean.missed top in
+      grind (arith, places_within rs all, whole_positive rs all some)
 
   -- the mean's place is the first level of least cost
   mean_first : (p : ℕ) → Mean (weighted_places rs) (whole_weight rs) p → First (placed_cost squared_cost rs) top p
@@ -152,11 +143,11 @@ module _ (rs : List Reading) (all : Scaled rs) (some : 0 < length rs) where
       (sum weight p : ℕ) → sum ≡ weighted_places rs → weight ≡ whole_weight rs → p ≡ (2 * sum + weight - 1) / (2 * weight)
       → (p ≤ top) × (at p ≡ squared_prefers rs)
   quotient_preferred sum weight p e f g =
-      let some_weight : 0 < weight = omega (arith, whole_positive rs all some) in
-      let own = quotient_mean sum weight p some_weight g in
-      let mean : Mean (weighted_places rs) (whole_weight rs) p = subst (λ w. Mean (weighted_places rs) w p) f (subst (λ s. Mean s weight p) e own) in
+      let own = quotient_mean sum weight p (omega (arith, whole_positive rs all some)) g in
+      let mean = rw (e, f) at own in
       let m = prefers_mean in
-      (mean_within p mean, ap at (one_first (placed_cost squared_cost rs) top p m.0 (mean_first p mean) (mean_first m.0 m.2)) ∙ sym m.1)
+      let same = one_first (placed_cost squared_cost rs) top p m.0 (mean_first p mean) (mean_first m.0 m.2) in
+      (mean_within p mean, cc)
 
 pub squared_first : PrefersFirst squared_cost squared_prefers
 squared_first rs all some = let m = prefers_mean rs all some in (m.0, m.1, mean_first rs all some m.0 m.2)

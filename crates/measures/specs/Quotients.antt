@@ -1,12 +1,13 @@
 -- Quotients of whole numbers of either sign: what lies below one, and what is left over.
 use Rattle.std.proofs.Common.{inl, inr, ap, ◌∙◌, mul-le-mul_left, arith}
-use Rattle.std.specs.Prelude.{◌≡◌, ℕ, suc, ◌+◌, ◌-◌, ◌*◌, ◌/◌, ◌%◌, ◌<◌, ◌≤◌, ℤ, pos, negsuc, ◌+ℤ◌, ◌-ℤ◌, ◌*ℤ◌, ◌≤ℤ◌, ◌<ℤ◌, nat_le, unsigned_abs, refl}
+use Rattle.std.specs.Prelude.{◌≡◌, ℕ, suc, ◌+◌, ◌-◌, ◌*◌, ◌/◌, ◌%◌, ◌<◌, ◌≤◌, ℤ, pos, negsuc, ◌+ℤ◌, ◌-ℤ◌, ◌*ℤ◌, ◌≤ℤ◌, ◌<ℤ◌, unsigned_abs, refl}
 use borrow.Author.Differences.{down, product_is, up}
 use Rattle.std.proofs.Math.Arith.{digits_div}
-use Rattle.std.proofs.lemmas.Int.{by_lt_z, ints, int_rem_euclid_is}
-use Rattle.std.proofs.lemmas.Bool.{cases_lt, cond_both, leb-false, leb-true}
+use Rattle.std.proofs.lemmas.Int.{ints, int_rem_euclid_is}
+use Rattle.std.proofs.lemmas.Bool.Decides.{nat_tests}
+use Rattle.std.proofs.lemmas.Bool.{cases_lt}
 use Rattle.measures.specs.Claims.{FlooredIsLargestNotAbove, NearestIsNearest}
-use Rattle.measures.specs.Values.{distance, floored, left_over}
+use Rattle.measures.specs.Values.{distance, floored, left_over, nearest}
 
 -- a quotient is known by its parts
 quotient_is : (m n q r : ℕ) → r < n → m ≡ q * n + r → m / n ≡ q
@@ -23,8 +24,7 @@ floored_shifted (negsuc a) n k m some shifted =
     elim (cases_lt (a / n) k) [
       | inl h ↦
           let t = k - suc (a / n) in
-          let parts : k ≡ suc (a / n) + t = omega arith in
-          let more = ap (λ j. j * n) parts in
+          let more : k * n ≡ (suc (a / n) + t) * n = ap (λ j. j * n) (omega arith) in
           let q : m / n ≡ t = quotient_is m n t (n - suc (a % n)) (omega arith) (omega arith) in
           omega (arith, ints)
       | inr h ↦ absurd (omega (arith, mul-le-mul_left n h))
@@ -54,13 +54,7 @@ parts (negsuc a) n some = (omega (arith, ints), omega arith)
 
 pub floored_largest : FlooredIsLargestNotAbove
 floored_largest z n some =
-    let made = parts z n some in (
-      omega (arith, ints, made.0),
-      λ u h.
-          by_lt_z (floored z n) u
-          (λ above. absurd (omega (arith, ints, made.0, made.1, times_gap n (floored z n) u above)))
-          (λ low. low),
-    )
+    let made = parts z n some in (omega (arith, ints), λ u h. let gap = times_gap n (floored z n) u in grind (arith, ints))
 
 -- how far the part below and the next whole number are off
 module _ (z q : ℤ) (n rest : ℕ) (made : z ≡ (pos n *ℤ q) +ℤ pos rest) (less : rest < n) where
@@ -69,12 +63,11 @@ module _ (z q : ℤ) (n rest : ℕ) (made : z ≡ (pos n *ℤ q) +ℤ pos rest) 
       → (distance z (pos n *ℤ q) ≤ distance z (pos n *ℤ u)) × (distance z (pos n *ℤ u) ≡ distance z (pos n *ℤ q) → q ≤ℤ u)
   below_nearest half u =
       let far : distance z (pos n *ℤ q) ≡ rest = omega (arith, ints) in
-      by_lt_z u q
-      (λ below. let gap = times_gap n u q below in (omega (arith, ints), λ same. absurd (omega (arith, ints))))
-      (λ low.
-      by_lt_z q u
-      (λ above. let gap = times_gap n q u above in (omega (arith, ints), λ same. low))
-      (λ high. let same : q ≡ u = omega (arith, ints) in (rw same (omega arith), λ e. low)))
+      let below = times_gap n u q in
+      let above = times_gap n q u in
+      let le = times_le n u q in
+      let ge = times_le n q u in
+      (grind (arith, ints), λ same. grind (arith, ints))
 
   next_nearest :
       n < 2 * rest → (u : ℤ)
@@ -85,16 +78,16 @@ module _ (z q : ℤ) (n rest : ℕ) (made : z ≡ (pos n *ℤ q) +ℤ pos rest) 
       let times = ap (λ k. n * k) one in
       let back : pos n *ℤ (q +ℤ pos 1) ≡ (pos n *ℤ q) +ℤ pos n = omega (arith, ints, product_is (pos n) (q +ℤ pos 1), product_is (pos n) q) in
       let far : distance z (pos n *ℤ (q +ℤ pos 1)) ≡ n - rest = omega (arith, ints) in
-      by_lt_z q u
-      (λ above. let gap = times_gap n q u above in (omega (arith, ints), λ same. omega (arith, ints)))
-      (λ low. let le = times_le n u q low in (omega (arith, ints), λ same. absurd (omega (arith, ints))))
+      let above = times_gap n q u in
+      let low = times_le n u q in
+      (grind (arith, ints), λ same. grind (arith, ints))
 
 pub nearest_nearest : NearestIsNearest
 nearest_nearest z n some u =
     let made = parts z n some in
     let q = floored z n in
     let rest = left_over z n in
-    cond_both (nat_le (2 * rest) n) q (q +ℤ pos 1)
-    (λ p. (distance z (pos n *ℤ p) ≤ distance z (pos n *ℤ u)) × (distance z (pos n *ℤ u) ≡ distance z (pos n *ℤ p) → p ≤ℤ u))
-    (λ e. below_nearest z q n rest made.0 made.1 (leb-true _ _ e) u)
-    (λ e. next_nearest z q n rest made.0 made.1 (leb-false _ _ e) u)
+    elim (cases_lt n (2 * rest)) [
+      | inl high ↦ let is : nearest z n ≡ q +ℤ pos 1 = grind (arith, nat_tests) in rw is (next_nearest z q n rest made.0 made.1 high u)
+      | inr low ↦ let is : nearest z n ≡ q = grind (arith, nat_tests) in rw is (below_nearest z q n rest made.0 made.1 low u)
+    ]
