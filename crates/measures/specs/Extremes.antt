@@ -1,8 +1,8 @@
 -- The smallest and the largest of a list: they bound it, and what holds of each number in it holds of them.
 use Rattle.std.specs.Prelude.{◌≡◌, ◌<◌, ◌⊎◌, List, [], ◌∷◌, ◌++◌, length, ℤ, ◌≤ℤ◌, fold, refl}
-use Rattle.std.proofs.Common.{get_or, inl, inr, ⊎_elim, sym, ap, subst, arith}
+use Rattle.std.proofs.Common.{get_or, inl, inr, ⊎_elim, ap, arith}
 use Rattle.std.proofs.lemmas.List.{length-append}
-use Rattle.std.proofs.lemmas.List.Elements.{All-append, All-cons, All-contains, All-contains_itself, All-head, All-nil, All-tail, All-weaker, Contains-append_left, Contains-append_right, Contains-get_or}
+use Rattle.std.proofs.lemmas.List.Elements.{All-append, All-cons, All-contains, All-contains_itself, All-head, All-nil, All-tail, Contains-append_left, Contains-append_right, Contains-get_or}
 use Rattle.std.proofs.lemmas.Int.{clamps, fold-int_max_bounds, fold-int_max_reached, fold-int_min_bounds, fold-int_min_reached, ints}
 use Rattle.std.specs.Int.{int_max, int_min}
 use Rattle.std.specs.List.{Contains, All}
@@ -11,21 +11,21 @@ use Rattle.measures.specs.Values.{largest, smallest}
 
 pub smallest_bounds : (xs : List ℤ) → All (λ x. smallest xs ≤ℤ x) xs
 smallest_bounds [] = All-nil _
-smallest_bounds (x ∷ xs) = let h = fold-int_min_bounds x xs (fold int_min x xs) refl in All-cons (λ y. fold int_min x xs ≤ℤ y) x xs h.0 h.1
+smallest_bounds (x ∷ xs) = let h = fold-int_min_bounds x xs _ refl in All-cons (λ y. fold int_min x xs ≤ℤ y) x xs h.0 h.1
 
 pub largest_bounds : (xs : List ℤ) → All (λ x. x ≤ℤ largest xs) xs
 largest_bounds [] = All-nil _
-largest_bounds (x ∷ xs) = let h = fold-int_max_bounds x xs (fold int_max x xs) refl in All-cons (λ y. y ≤ℤ fold int_max x xs) x xs h.0 h.1
+largest_bounds (x ∷ xs) = let h = fold-int_max_bounds x xs _ refl in All-cons (λ y. y ≤ℤ fold int_max x xs) x xs h.0 h.1
 
 pub smallest_holds : (P : ℤ → Type 0) (xs : List ℤ) → 0 < length xs → All P xs → P (smallest xs)
 smallest_holds P [] some all = absurd (omega arith)
 smallest_holds P (x ∷ xs) some all =
-    ⊎_elim (λ e. subst P (sym e) (All-head P x xs all)) (All-contains P xs (fold int_min x xs) (All-tail P x xs all)) (fold-int_min_reached x xs (fold int_min x xs) refl)
+    ⊎_elim (λ e. rw e (All-head P x xs all)) (All-contains P xs _ (All-tail P x xs all)) (fold-int_min_reached x xs _ refl)
 
 pub largest_holds : (P : ℤ → Type 0) (xs : List ℤ) → 0 < length xs → All P xs → P (largest xs)
 largest_holds P [] some all = absurd (omega arith)
 largest_holds P (x ∷ xs) some all =
-    ⊎_elim (λ e. subst P (sym e) (All-head P x xs all)) (All-contains P xs (fold int_max x xs) (All-tail P x xs all)) (fold-int_max_reached x xs (fold int_max x xs) refl)
+    ⊎_elim (λ e. rw e (All-head P x xs all)) (All-contains P xs _ (All-tail P x xs all)) (fold-int_max_reached x xs _ refl)
 
 pub extremes_reached : ExtremesAreReached
 extremes_reached xs some =
@@ -76,14 +76,10 @@ module _ (xs ys : List ℤ) (some_x : 0 < length xs) (some_y : 0 < length ys) wh
   smallest_from =
       let P : ℤ → Type 0 = λ z. (smallest xs ≤ℤ z) ⊎ (smallest ys ≤ℤ z) in
       smallest_holds P (xs ++ ys) both_some
-      (All-append P xs ys
-      (All-weaker (λ z. smallest xs ≤ℤ z) P (λ z h. inl h) xs (smallest_bounds xs))
-      (All-weaker (λ z. smallest ys ≤ℤ z) P (λ z h. inr h) ys (smallest_bounds ys)))
+      (All-append P xs ys (λ k d h. inl (smallest_bounds xs k d h)) (λ k d h. inr (smallest_bounds ys k d h)))
 
   pub largest_from : (largest (xs ++ ys) ≤ℤ largest xs) ⊎ (largest (xs ++ ys) ≤ℤ largest ys)
   largest_from =
       let P : ℤ → Type 0 = λ z. (z ≤ℤ largest xs) ⊎ (z ≤ℤ largest ys) in
       largest_holds P (xs ++ ys) both_some
-      (All-append P xs ys
-      (All-weaker (λ z. z ≤ℤ largest xs) P (λ z h. inl h) xs (largest_bounds xs))
-      (All-weaker (λ z. z ≤ℤ largest ys) P (λ z h. inr h) ys (largest_bounds ys)))
+      (All-append P xs ys (λ k d h. inl (largest_bounds xs k d h)) (λ k d h. inr (largest_bounds ys k d h)))

@@ -1,6 +1,6 @@
 -- The largest distance: how it combines, and that it is the distance of an end of the values.
 use Rattle.std.specs.Prelude.{◌≡◌, ℕ, ◌+◌, ◌-◌, ◌<◌, ◌≤◌, max, List, [], ◌∷◌, ◌++◌, length, take, ℤ, ◌≤ℤ◌, slice_index_or, refl}
-use Rattle.std.proofs.Common.{ap, subst, arith}
+use Rattle.std.proofs.Common.{ap, arith}
 use Rattle.std.proofs.lemmas.List.{take_more}
 use Rattle.std.proofs.lemmas.List.Elements.{All-cons, All-head, All-nil, All-tail}
 use Rattle.std.proofs.lemmas.Int.{ints}
@@ -48,16 +48,14 @@ largest_bounded r v scaled level = omega (arith, distance_within r v scaled leve
 
 -- whatever bounds the largest distance bounds the distance of every value
 departs_bounds : (rs : List Reading) (v : ℤ) (m : ℕ) → largest_departs rs v ≤ m → All (λ x. distance x v ≤ m) (values rs)
-departs_bounds [] v m h = All-nil (λ x. distance x v ≤ m)
+departs_bounds [] v m h = All-nil _
 departs_bounds (r ∷ rs) v m h = All-cons (λ x. distance x v ≤ m) r.value (values rs) (omega arith) (departs_bounds rs v m (omega arith))
 
 -- and whatever bounds the distance of every value bounds the largest
 departs_least : (rs : List Reading) (v : ℤ) (m : ℕ) → All (λ x. distance x v ≤ m) (values rs) → largest_departs rs v ≤ m
 departs_least [] v m all = omega arith
 departs_least (r ∷ rs) v m all =
-    let one = All-head (λ x. distance x v ≤ m) r.value (values rs) all in
-    let rest = departs_least rs v m (All-tail (λ x. distance x v ≤ m) r.value (values rs) all) in
-    omega arith
+    omega (arith, All-head (λ x. distance x v ≤ m) r.value (values rs) all, departs_least rs v m (All-tail (λ x. distance x v ≤ m) r.value (values rs) all))
 
 -- what two facts of each entry give
 all_both :
@@ -72,7 +70,7 @@ module _ (rs : List Reading) (all : Scaled rs) (some : 0 < length rs) where
   between_ends : (e : Ends rs) (n : ℕ) → All (λ x. distance x (at n) ≤ max (e.high - n) (n - e.low)) (values rs)
   between_ends e n =
       all_both (λ x. smallest (values rs) ≤ℤ x) (λ x. x ≤ℤ largest (values rs)) (λ x. distance x (at n) ≤ max (e.high - n) (n - e.low)) (values rs)
-      (λ x low high. between e.low e.high x n (subst (λ z. z ≤ℤ x) e.lowest low) (subst (λ z. x ≤ℤ z) e.highest high))
+      (λ x low high. between e.low e.high x n (rw e.lowest at low) (rw e.highest at high))
       (smallest_bounds (values rs))
       (largest_bounds (values rs))
 
@@ -81,9 +79,7 @@ module _ (rs : List Reading) (all : Scaled rs) (some : 0 < length rs) where
   ends_depart e n =
       let d = largest_departs rs (at n) in
       let own = departs_bounds rs (at n) d (omega arith) in
-      let low_end : distance (smallest (values rs)) (at n) ≤ d = smallest_holds (λ x. distance x (at n) ≤ d) (values rs) (some_values rs some) own in
-      let high_end : distance (largest (values rs)) (at n) ≤ d = largest_holds (λ x. distance x (at n) ≤ d) (values rs) (some_values rs some) own in
-      let up_to : d ≤ max (e.high - n) (n - e.low) = departs_least rs (at n) (max (e.high - n) (n - e.low)) (between_ends e n) in
-      let far_low : n - e.low ≤ d = omega (arith, ints, low_end, e.lowest) in
-      let far_high : e.high - n ≤ d = omega (arith, ints, high_end, e.highest) in
-      omega arith
+      let low_end = smallest_holds (λ x. distance x (at n) ≤ d) (values rs) (some_values rs some) own in
+      let high_end = largest_holds (λ x. distance x (at n) ≤ d) (values rs) (some_values rs some) own in
+      let up_to = departs_least rs (at n) (max (e.high - n) (n - e.low)) (between_ends e n) in
+      omega (arith, ints, low_end, high_end, up_to)

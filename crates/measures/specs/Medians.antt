@@ -1,10 +1,10 @@
 -- The weighted median: it is the first level at which the weighted absolute distances add up to the least.
-use Rattle.std.specs.Prelude.{◌≡◌, ℕ, zero, suc, ◌+◌, ◌*◌, ◌<◌, ◌≤◌, Bool, true, false, cond, ◌⊎◌, List, [], ◌∷◌, length, ℤ, pos, ◌-ℤ◌, ◌≤ℤ◌, ◌<ℤ◌, filter, int_le, refl}
-use Rattle.std.proofs.Common.{inl, inr, ⊎_elim, sym, ap, subst, ◌∙◌, mul-le-mul, arith}
+use Rattle.std.specs.Prelude.{◌≡◌, ℕ, zero, suc, ◌+◌, ◌*◌, ◌<◌, ◌≤◌, Bool, true, false, cond, ◌⊎◌, List, [], ◌∷◌, length, ℤ, pos, ◌-ℤ◌, ◌≤ℤ◌, ◌<ℤ◌, filter, refl}
+use Rattle.std.proofs.Common.{inl, inr, subst, mul-le-mul, arith}
 use Rattle.std.proofs.lemmas.Int.{ints, by_lt_z}
 use Rattle.std.proofs.lemmas.List.Elements.{All-filter, All-head, All-nil, All-tail, filter_passes}
 use Rattle.std.proofs.lemmas.List.Sums.{sum_by-cons, sum_by-le-sum_by}
-use Rattle.std.proofs.lemmas.Bool.{both_ways, cases_lt, cond_both, cond-false, cond-true, leb-true, le-leb}
+use Rattle.std.proofs.lemmas.Bool.{cases_lt, leb-true, le-leb}
 use Rattle.std.specs.List.{All}
 use Rattle.reading.specs.declared.scale.Reading.{Reading}
 use Rattle.reading.specs.Scale.{Level, OnScale, Scaled}
@@ -21,13 +21,13 @@ use Rattle.measures.specs.Weights.{whole_positive}
 use Rattle.isotonic.specs.Costs.{CostBends, CostShifts, PrefersFirst, placed_cost}
 
 counted_below : (r : Reading) (v : ℤ) → r.value ≤ℤ v → counted r v ≡ r.weight
-counted_below r v h = cond-true (int_le r.value v) r.weight 0 (grind (arith, ints))
+counted_below r v h = grind (arith, ints)
 
 counted_above : (r : Reading) (v : ℤ) → v <ℤ r.value → counted r v ≡ 0
-counted_above r v h = cond-false (int_le r.value v) r.weight 0 (grind (arith, ints))
+counted_above r v h = grind (arith, ints)
 
 pub counted_small : (r : Reading) (v : ℤ) → OnScale r → counted r v ≤ 1000
-counted_small r v scaled = cond_both (int_le r.value v) r.weight 0 (λ w. w ≤ 1000) (λ e. (weight_bounds r scaled).1) (λ e. omega arith)
+counted_small r v scaled = grind (arith, weight_bounds r scaled)
 
 pub counted_within : (r : Reading) (v : ℤ) → OnScale r → Level v → counted r v ≤ one_most
 counted_within r v scaled level = omega (arith, counted_small r v scaled)
@@ -36,27 +36,19 @@ counted_within r v scaled level = omega (arith, counted_small r v scaled)
 cost_step : (r : Reading) (n : ℕ) → absolute_cost r (at (suc n)) + r.weight ≡ absolute_cost r (at n) + 2 * counted r (at n)
 cost_step r n =
     by_lt_z (at n) r.value
-    (λ h.
-    let e : distance r.value (at n) ≡ suc (distance r.value (at (suc n))) = omega (arith, ints) in
-    rw (counted_above r (at n) h, e) (omega arith))
-    (λ h.
-    let e : distance r.value (at (suc n)) ≡ suc (distance r.value (at n)) = omega (arith, ints) in
-    rw (counted_below r (at n) h, e) (omega arith))
+    (λ h. let e : distance r.value (at n) ≡ suc (distance r.value (at (suc n))) = omega (arith, ints) in rw (counted_above r (at n) h, e) (omega arith))
+    (λ h. let e : distance r.value (at (suc n)) ≡ suc (distance r.value (at n)) = omega (arith, ints) in rw (counted_below r (at n) h, e) (omega arith))
 
 total_step : (rs : List Reading) (n : ℕ) → placed_cost absolute_cost rs (suc n) + whole_weight rs ≡ placed_cost absolute_cost rs n + 2 * weight_up_to rs (at n)
 total_step [] n = refl
 total_step (r ∷ rs) n =
     let rest = total_step rs n in
     let one = cost_step r n in
-    omega
-    (arith, sum_by-cons (λ s. absolute_cost s (at n)) r rs, sum_by-cons (λ s. absolute_cost s (at (suc n))) r rs, sum_by-cons (λ s. s.weight) r rs, sum_by-cons (λ s. counted s (at n)) r rs)
+    omega (arith, sum_by-cons {X = Reading})
 
 -- over a higher level a lower value of the same weight counts no less
 counted_rises : (r s : Reading) (u v : ℤ) → r.weight ≡ s.weight → u ≤ℤ v → r.value ≤ℤ s.value → counted s u ≤ counted r v
-counted_rises r s u v same h k =
-    by_lt_z u s.value
-    (λ above. rw (counted_above s u above) (omega arith))
-    (λ below. rw (counted_below s u below, counted_below r v (omega (arith, ints))) (omega arith))
+counted_rises r s u v same h k = grind (arith, ints)
 
 pub absolute_bends : CostBends absolute_cost
 absolute_bends r scaled n h =
@@ -77,18 +69,16 @@ up_to_step :
     → (z ≤ℤ v) ⊎ (weight_up_to rs v ≡ weight_up_to rs (v -ℤ pos 1))
 up_to_step [] v z p passes all = inr refl
 up_to_step (r ∷ rs) v z p passes all =
-    let rest : All (λ y. z ≤ℤ y) (filter p (values rs)) = kept_rest (p r.value) all in
-    ⊎_elim inl
-    (λ e.
-    by_lt_z r.value v
-    (λ below. inr (more e (counted_below r v (omega (arith, ints)) ∙ sym (counted_below r (v -ℤ pos 1) (omega (arith, ints))))))
-    (λ high.
-    by_lt_z v r.value
-    (λ above. inr (more e (counted_above r v above ∙ sym (counted_above r (v -ℤ pos 1) (omega (arith, ints))))))
-    (λ low.
-    let same : r.value ≡ v = omega (arith, ints) in
-    inl (subst (λ y. z ≤ℤ y) same (kept_first (p r.value) (ap p same ∙ passes) all)))))
-    (up_to_step rs v z p passes rest)
+    let rest = kept_rest (p r.value) all in
+    let step : (r.value ≡ v) ⊎ (counted r v ≡ counted r (v -ℤ pos 1)) = grind (arith, ints) in
+    elim (up_to_step rs v z p passes rest) [
+      | inl h ↦ inl h
+      | inr e ↦
+          elim step [
+            | inl same ↦ inl (rw (← same) (kept_first (p r.value) (cc) all))
+            | inr one ↦ inr (more e one)
+          ]
+    ]
   where
     kept_rest :
         (b : Bool) → All (λ y. z ≤ℤ y) (cond b (r.value ∷ filter p (values rs)) (filter p (values rs))) → All (λ y. z ≤ℤ y) (filter p (values rs))
@@ -97,23 +87,23 @@ up_to_step (r ∷ rs) v z p passes all =
 
     kept_first : (b : Bool) → b ≡ true → All (λ y. z ≤ℤ y) (cond b (r.value ∷ filter p (values rs)) (filter p (values rs))) → z ≤ℤ r.value
     kept_first true e h = All-head (λ y. z ≤ℤ y) r.value (filter p (values rs)) h
-    kept_first false e h = absurd (both_ways false refl e)
+    kept_first false e h = absurd (cc)
 
     more : weight_up_to rs v ≡ weight_up_to rs (v -ℤ pos 1) → counted r v ≡ counted r (v -ℤ pos 1) → weight_up_to (r ∷ rs) v ≡ weight_up_to (r ∷ rs) (v -ℤ pos 1)
-    more e f = omega (arith, sum_by-cons (λ s. counted s v) r rs, sum_by-cons (λ s. counted s (v -ℤ pos 1)) r rs)
+    more e f = omega (arith, sum_by-cons {X = Reading})
 
 -- no value lies below the lowest level, and none above the highest
 none_below : (rs : List Reading) → Scaled rs → weight_up_to rs (at 0 -ℤ pos 1) ≡ 0
 none_below [] all = refl
 none_below (r ∷ rs) all =
     let one = counted_above r (at 0 -ℤ pos 1) (omega (arith, ints, level_bounds r.value (value_level r (All-head OnScale r rs all)))) in
-    omega (arith, none_below rs (All-tail OnScale r rs all), sum_by-cons (λ s. counted s (at 0 -ℤ pos 1)) r rs)
+    omega (arith, none_below rs (All-tail OnScale r rs all), sum_by-cons {X = Reading})
 
 pub all_below : (rs : List Reading) → Scaled rs → weight_up_to rs (at top) ≡ whole_weight rs
 all_below [] all = refl
 all_below (r ∷ rs) all =
     let one = counted_below r (at top) (omega (arith, ints, level_bounds r.value (value_level r (All-head OnScale r rs all)))) in
-    omega (arith, all_below rs (All-tail OnScale r rs all), sum_by-cons (λ s. counted s (at top)) r rs, sum_by-cons (λ s. s.weight) r rs)
+    omega (arith, all_below rs (All-tail OnScale r rs all), sum_by-cons {X = Reading})
 
 pub up_to_rises : (rs : List Reading) (u v : ℤ) → u ≤ℤ v → weight_up_to rs u ≤ weight_up_to rs v
 up_to_rises rs u v h = sum_by-le-sum_by (λ s. counted s u) (λ s. counted s v) rs (λ s. counted_rises s s u v refl h (omega (arith, ints)))
@@ -129,16 +119,16 @@ module _ (rs : List Reading) (all : Scaled rs) (some : 0 < length rs) where
   bounds_halves :
       (z : ℤ) → All (λ y. z ≤ℤ y) (filter (reaches_half rs) (values rs)) → (n : ℕ) → whole_weight rs ≤ 2 * weight_up_to rs (at n) → z ≤ℤ at n
   bounds_halves z low zero half =
-      ⊎_elim (λ h. h)
-      (λ e. absurd (omega (arith, whole_positive rs all some, none_below rs all)))
-      (up_to_step rs (at 0) z (reaches_half rs) (le-leb _ _ half) low)
+      elim (up_to_step rs (at 0) z (reaches_half rs) (le-leb _ _ half) low) [
+        | inl h ↦ h
+        | inr e ↦ absurd (omega (arith, whole_positive rs all some, none_below rs all))
+      ]
   bounds_halves z low (suc n) half =
       let here : at (suc n) -ℤ pos 1 ≡ at n = omega (arith, ints) in
-      ⊎_elim (λ h. h)
-      (λ e.
-      let less : whole_weight rs ≤ 2 * weight_up_to rs (at n) = omega (arith, ap (λ v. weight_up_to rs v) here) in
-      omega (arith, ints, bounds_halves z low n less))
-      (up_to_step rs (at (suc n)) z (reaches_half rs) (le-leb _ _ half) low)
+      elim (up_to_step rs (at (suc n)) z (reaches_half rs) (le-leb _ _ half) low) [
+        | inl h ↦ h
+        | inr e ↦ omega (arith, ints, bounds_halves z low n (omega (arith, rw here at e)))
+      ]
 
   some_kept : (ks : List ℤ) → ks ≡ filter (reaches_half rs) (values rs) → 0 < length ks
   some_kept [] e =
@@ -151,9 +141,8 @@ module _ (rs : List Reading) (all : Scaled rs) (some : 0 < length rs) where
   prefers_median =
       let kept = filter (reaches_half rs) (values rs) in
       let some_k = some_kept kept refl in
-      let level : Level (smallest kept) = smallest_holds Level kept some_k (All-filter (reaches_half rs) Level (values rs) (values_levels rs all)) in
-      let half : reaches_half rs (smallest kept) ≡ true =
-      smallest_holds (λ x. reaches_half rs x ≡ true) kept some_k (filter_passes (reaches_half rs) (values rs)) in
+      let level = smallest_holds Level kept some_k (All-filter (reaches_half rs) Level (values rs) (values_levels rs all)) in
+      let half = smallest_holds (λ x. reaches_half rs x ≡ true) kept some_k (filter_passes (reaches_half rs) (values rs)) in
       let place = placed (smallest kept) level in
       (place.0, place.2, median place.0 place.1 place.2 half)
     where
@@ -161,14 +150,12 @@ module _ (rs : List Reading) (all : Scaled rs) (some : 0 < length rs) where
       median p high e half =
           record {
             within = high;
-            reached = leb-true _ _ (subst (λ v. reaches_half rs v ≡ true) e half);
+            reached = leb-true _ _ (rw e at half);
             missed =
                 λ n h.
                 elim (cases_lt (2 * weight_up_to rs (at n)) (whole_weight rs)) [
                   | inl less ↦ less
-                  | inr more ↦
-                      let low = bounds_halves (absolute_prefers rs) (smallest_bounds (filter (reaches_half rs) (values rs))) n more in
-                      absurd (omega (arith, ints, low, e))
+                  | inr more ↦ absurd (omega (arith, ints, e, bounds_halves (absolute_prefers rs) (smallest_bounds (filter (reaches_half rs) (values rs))) n more))
                 ];
           }
 
@@ -185,7 +172,8 @@ median_first rs p median =
 pub median_preferred : (rs : List Reading) (p : ℕ) → Scaled rs → 0 < length rs → Median rs p → at p ≡ absolute_prefers rs
 median_preferred rs p all some median =
     let m = prefers_median rs all some in
-    ap at (one_first (placed_cost absolute_cost rs) top p m.0 (median_first rs p median) (median_first rs m.0 m.2)) ∙ sym m.1
+    let same = one_first (placed_cost absolute_cost rs) top p m.0 (median_first rs p median) (median_first rs m.0 m.2) in
+    cc
 
 pub absolute_first : PrefersFirst absolute_cost absolute_prefers
 absolute_first rs all some = let m = prefers_median rs all some in (m.0, m.1, median_first rs m.0 m.2)

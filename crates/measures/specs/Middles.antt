@@ -1,6 +1,6 @@
 -- The middle of the values: the laws of what L prefers.
 use Rattle.std.specs.Prelude.{◌≡◌, ℕ, ◌+◌, ◌-◌, ◌/◌, ◌<◌, ◌≤◌, max, List, ◌++◌, length, ℤ, pos, negsuc, ◌+ℤ◌, ◌≤ℤ◌, ◌<ℤ◌}
-use Rattle.std.proofs.Common.{inl, inr, ⊎_elim, sym, subst, ◌∙◌, arith}
+use Rattle.std.proofs.Common.{inl, inr, arith}
 use Rattle.std.proofs.lemmas.List.{map-append}
 use Rattle.std.proofs.lemmas.Int.{ints}
 use Rattle.reading.specs.declared.scale.Reading.{Reading}
@@ -18,14 +18,8 @@ use Rattle.measures.specs.Quotients.{floored_shifted}
 -- nearer to the middle of a and b, the farther of them is no farther
 nearer_middle :
     (a b u v : ℕ) → a ≤ b → LiesBetween (at ((a + b) / 2)) (at u) (at v) → max (b - u) (u - a) ≤ max (b - v) (v - a)
-nearer_middle a b u v ordered (inl h) =
-    let low : (a + b) / 2 ≤ u = omega (arith, ints, h.0) in
-    let high : u ≤ v = omega (arith, ints, h.1) in
-    omega arith
-nearer_middle a b u v ordered (inr h) =
-    let low : v ≤ u = omega (arith, ints, h.0) in
-    let high : u ≤ (a + b) / 2 = omega (arith, ints, h.1) in
-    omega arith
+nearer_middle a b u v ordered (inl h) = omega (arith, ints)
+nearer_middle a b u v ordered (inr h) = omega (arith, ints)
 
 module _ (rs : List Reading) (all : Scaled rs) (some : 0 < length rs) where
   -- what is preferred is the place in the middle
@@ -37,33 +31,28 @@ pub largest_nearer : NearerDepartsNoMore largest_departs largest_prefers
 largest_nearer xs all some =
     let e = ends_of xs all some in
     let p = (e.low + e.high) / 2 in
-    let here = middle_place xs all some e in
-    let o = e.ordered in
-    let w = e.within in
-    let level : Level (at p) = at_level p (omega arith) in (
-      subst Level (sym here) level,
-      λ u v level_v lies.
-          let from_p = subst (λ z. LiesBetween z u v) here lies in
-          let at_v = placed v level_v in
-          let at_u = placed u (between_levels (at p) u v level level_v from_p) in
-          placed_nearer xs all some e u v at_u.0 at_v.0 at_u.2 at_v.2 from_p,
+    let here : Level (at p) = at_level p (omega (arith, e.ordered, e.within)) in
+    rw (middle_place xs all some e) (
+      here,
+      λ u v level lies.
+          let at_v = placed v level in
+          let at_u = placed u (between_levels (at p) u v here level lies) in
+          placed_nearer xs all some e u v at_u.0 at_v.0 at_u.2 at_v.2 lies,
     )
   where
     placed_nearer :
         (xs : List Reading) → Scaled xs → 0 < length xs → (e : Ends xs) (u v : ℤ) (a b : ℕ) → u ≡ at a → v ≡ at b
         → LiesBetween (at ((e.low + e.high) / 2)) u v → largest_departs xs u ≤ largest_departs xs v
     placed_nearer xs all some e u v a b eu ev lies =
-        let there = subst (λ z. LiesBetween (at ((e.low + e.high) / 2)) (at a) z) ev (subst (λ z. LiesBetween (at ((e.low + e.high) / 2)) z v) eu lies) in
-        let nearer = nearer_middle e.low e.high a b e.ordered there in
-        let le : largest_departs xs (at a) ≤ largest_departs xs (at b) = omega (arith, nearer, ends_depart xs all some e a, ends_depart xs all some e b) in
-        rw (eu, ev) le
+        let nearer = nearer_middle e.low e.high a b e.ordered (rw (eu, ev) at lies) in
+        rw (eu, ev) (omega (arith, nearer, ends_depart xs all some e a, ends_depart xs all some e b))
 
 -- higher ends have a middle no lower
 floored_rises : (y z : ℤ) → y ≤ℤ z → floored y 2 ≤ℤ floored z 2
-floored_rises (pos a) (pos b) h = let le : a ≤ b = omega (arith, ints) in omega (arith, ints)
+floored_rises (pos a) (pos b) h = omega (arith, ints)
 floored_rises (pos a) (negsuc b) h = absurd (omega (arith, ints))
 floored_rises (negsuc a) (pos b) h = omega (arith, ints)
-floored_rises (negsuc a) (negsuc b) h = let le : b ≤ a = omega (arith, ints) in omega (arith, ints)
+floored_rises (negsuc a) (negsuc b) h = omega (arith, ints)
 
 -- the middle of a list of values
 abbrev middle : List ℤ → ℤ
@@ -74,19 +63,19 @@ module _ (xs ys : List ℤ) (some_x : 0 < length xs) (some_y : 0 < length ys) wh
   middle_not_below a b =
       let l = left_bounds xs ys some_x some_y in
       let r = right_bounds xs ys some_x some_y in
-      ⊎_elim
-      (λ low. let le = floored_rises (smallest xs +ℤ largest xs) (smallest (xs ++ ys) +ℤ largest (xs ++ ys)) (omega (arith, ints)) in omega (arith, ints))
-      (λ low. let le = floored_rises (smallest ys +ℤ largest ys) (smallest (xs ++ ys) +ℤ largest (xs ++ ys)) (omega (arith, ints)) in omega (arith, ints))
-      (smallest_from xs ys some_x some_y)
+      let low = smallest_from xs ys some_x some_y in
+      let x = floored_rises (smallest xs +ℤ largest xs) (smallest (xs ++ ys) +ℤ largest (xs ++ ys)) in
+      let y = floored_rises (smallest ys +ℤ largest ys) (smallest (xs ++ ys) +ℤ largest (xs ++ ys)) in
+      grind (arith, ints)
 
   middle_not_above : middle xs <ℤ middle (xs ++ ys) → middle ys <ℤ middle (xs ++ ys) → ⊥
   middle_not_above a b =
       let l = left_bounds xs ys some_x some_y in
       let r = right_bounds xs ys some_x some_y in
-      ⊎_elim
-      (λ high. let le = floored_rises (smallest (xs ++ ys) +ℤ largest (xs ++ ys)) (smallest xs +ℤ largest xs) (omega (arith, ints)) in omega (arith, ints))
-      (λ high. let le = floored_rises (smallest (xs ++ ys) +ℤ largest (xs ++ ys)) (smallest ys +ℤ largest ys) (omega (arith, ints)) in omega (arith, ints))
-      (largest_from xs ys some_x some_y)
+      let high = largest_from xs ys some_x some_y in
+      let x = floored_rises (smallest (xs ++ ys) +ℤ largest (xs ++ ys)) (smallest xs +ℤ largest xs) in
+      let y = floored_rises (smallest (xs ++ ys) +ℤ largest (xs ++ ys)) (smallest ys +ℤ largest ys) in
+      grind (arith, ints)
 
 pub largest_between : JoinedPrefersBetween largest_prefers
 largest_between xs ys all_x all_y some_x some_y =
@@ -116,6 +105,4 @@ largest_smallest xs all some v level =
     let least = middle_least e.low e.high n e.ordered in
     let at_p = ends_depart xs all some e p in
     let at_n = ends_depart xs all some e n in
-    subst (λ z. (largest_departs xs z ≤ largest_departs xs v) × (largest_departs xs v ≡ largest_departs xs z → z ≤ℤ v)) (sym (middle_place xs all some e))
-    (subst (λ z. (largest_departs xs (at p) ≤ largest_departs xs z) × (largest_departs xs z ≡ largest_departs xs (at p) → at p ≤ℤ z)) (sym there.2)
-    (omega (arith, least.0, at_p, at_n), λ same. at_le p n (least.1 (sym at_n ∙ same ∙ at_p))))
+    rw (middle_place xs all some e, there.2) (omega (arith, least.0, at_p, at_n), λ same. at_le p n (least.1 (omega arith)))

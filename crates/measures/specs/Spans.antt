@@ -1,12 +1,12 @@
 -- The values of readings on the scale: their smallest and their largest, and what raising values does to these.
-use Rattle.std.specs.Prelude.{◌≡◌, ℕ, ◌<◌, ◌≤◌, List, [], ◌∷◌, length, ℤ, pos, negsuc, ◌≤ℤ◌}
-use Rattle.std.proofs.Common.{sym, subst, arith}
+use Rattle.std.specs.Prelude.{◌≡◌, ℕ, ◌<◌, ◌≤◌, List, [], ◌∷◌, length, ℤ, pos, negsuc, ◌≤ℤ◌, slice_index_or}
+use Rattle.std.proofs.Common.{arith}
 use Rattle.std.proofs.lemmas.List.{length-map}
-use Rattle.std.proofs.lemmas.List.Elements.{All-cons, All-head, All-map, All-nil, All-tail, All-weaker, length_all_zip}
+use Rattle.std.proofs.lemmas.List.Elements.{All-cons, All-head, All-map, All-nil, All-tail, length_all_zip}
 use Rattle.std.proofs.lemmas.Int.{ints}
 use Rattle.std.specs.List.{All}
 use Rattle.reading.specs.declared.scale.Reading.{Reading}
-use Rattle.reading.specs.Scale.{Level, OnScale, Scaled}
+use Rattle.reading.specs.Scale.{Level, Scaled}
 use Rattle.isotonic.specs.Laws.{NowhereLower}
 use Rattle.isotonic.specs.Scales.{level_bounds, value_level}
 use Rattle.measures.specs.Values.{largest, smallest, values}
@@ -17,14 +17,14 @@ pub some_values : (rs : List Reading) → 0 < length rs → 0 < length (values r
 some_values rs some = omega (arith, length-map rs (λ (r : Reading). r.value))
 
 pub values_levels : (rs : List Reading) → Scaled rs → All Level (values rs)
-values_levels rs all = All-map Level (λ r. r.value) rs (All-weaker OnScale (λ r. Level r.value) value_level rs all)
+values_levels rs all = All-map Level (λ r. r.value) rs (λ k d h. value_level (slice_index_or rs k d) (all k d h))
 
 -- no value is off the scale of levels
 pub values_below : (rs : List Reading) → Scaled rs → All (λ x. x ≤ℤ pos 30000) (values rs)
-values_below rs all = All-weaker Level (λ x. x ≤ℤ pos 30000) (λ x level. (level_bounds x level).1) (values rs) (values_levels rs all)
+values_below rs all k d h = (level_bounds _ (values_levels rs all k d h)).1
 
 pub values_above : (rs : List Reading) → Scaled rs → All (λ x. negsuc 29999 ≤ℤ x) (values rs)
-values_above rs all = All-weaker Level (λ x. negsuc 29999 ≤ℤ x) (λ x level. (level_bounds x level).0) (values rs) (values_levels rs all)
+values_above rs all k d h = (level_bounds _ (values_levels rs all k d h)).0
 
 -- the smallest and the largest value, by their places
 pub record Ends (rs : List Reading) : Type 0 where
@@ -44,7 +44,7 @@ module _ (rs : List Reading) (all : Scaled rs) (some : 0 < length rs) where
 
   -- the two ends, however they were found, are levels
   pub span_levels : (low high : ℤ) → low ≡ smallest (values rs) → high ≡ largest (values rs) → Level low × Level high
-  span_levels low high e f = (subst Level (sym e) lowest_level, subst Level (sym f) highest_level)
+  span_levels low high e f = (rw e lowest_level, rw f highest_level)
 
   in_order : smallest (values rs) ≤ℤ largest (values rs)
   in_order = smallest_holds (λ x. x ≤ℤ largest (values rs)) (values rs) (some_values rs some) (largest_bounds (values rs))
