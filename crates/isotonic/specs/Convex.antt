@@ -1,5 +1,5 @@
 -- Costs over the places 0 to top that bend upwards, and the first place at which such a cost is least.
-use Rattle.std.specs.Prelude.{◌≡◌, ℕ, zero, suc, ◌+◌, ◌-◌, ◌<◌, ◌≤◌, ◌≢◌, refl}
+use Rattle.std.specs.Prelude.{◌≡◌, ℕ, zero, suc, ◌+◌, ◌-◌, ◌<◌, ◌≤◌}
 use Rattle.std.proofs.Common.{arith}
 
 -- the change from one place to the next never shrinks
@@ -60,16 +60,13 @@ module _ (D E F : ℕ → ℕ) (top p q m : ℕ) (both : (n : ℕ) → F n ≡ D
       omega (arith, both m, both (suc m))
 
   pub not_after_both : p < m → q < m → ⊥
-  not_after_both a b = after m refl
-    where
-      after : (k : ℕ) → m ≢ k
-      after zero e = omega arith
-      after (suc k) e =
-          let t = first_F.within in
-          let d = rises_after D top p bends_D first_D k (omega arith) (omega arith) in
-          let f = rises_after E top q bends_E first_E k (omega arith) (omega arith) in
-          let g = first_F.falls k (omega arith) in
-          omega (arith, both k, both (suc k))
+  not_after_both a b =
+      let k = m - 1 in
+      let t = first_F.within in
+      let d = rises_after D top p bends_D first_D k (omega arith) (omega arith) in
+      let e = rises_after E top q bends_E first_E k (omega arith) (omega arith) in
+      let f = first_F.falls k (omega arith) in
+      omega (arith, both k, both (suc k))
 
 -- a cost whose change is nowhere larger has its first least place no earlier
 pub no_earlier :
