@@ -69,28 +69,22 @@ up_to_step :
     → (z ≤ℤ v) ⊎ (weight_up_to rs v ≡ weight_up_to rs (v -ℤ pos 1))
 up_to_step [] v z p passes all = inr refl
 up_to_step (r ∷ rs) v z p passes all =
-    let rest = kept_rest (p r.value) all in
+    let here = kept (p r.value) all in
     let step : (r.value ≡ v) ⊎ (counted r v ≡ counted r (v -ℤ pos 1)) = grind (arith, ints) in
-    elim (up_to_step rs v z p passes rest) [
+    elim (up_to_step rs v z p passes here.1) [
       | inl h ↦ inl h
       | inr e ↦
           elim step [
-            | inl same ↦ inl (rw (← same) (kept_first (p r.value) (cc) all))
-            | inr one ↦ inr (more e one)
+            | inl same ↦ inl (rw (← same) (here.0 (cc)))
+            | inr one ↦ inr (omega (arith, sum_by-cons {X = Reading}))
           ]
     ]
   where
-    kept_rest :
-        (b : Bool) → All (λ y. z ≤ℤ y) (cond b (r.value ∷ filter p (values rs)) (filter p (values rs))) → All (λ y. z ≤ℤ y) (filter p (values rs))
-    kept_rest true h = All-tail (λ y. z ≤ℤ y) r.value (filter p (values rs)) h
-    kept_rest false h = h
-
-    kept_first : (b : Bool) → b ≡ true → All (λ y. z ≤ℤ y) (cond b (r.value ∷ filter p (values rs)) (filter p (values rs))) → z ≤ℤ r.value
-    kept_first true e h = All-head (λ y. z ≤ℤ y) r.value (filter p (values rs)) h
-    kept_first false e h = absurd (cc)
-
-    more : weight_up_to rs v ≡ weight_up_to rs (v -ℤ pos 1) → counted r v ≡ counted r (v -ℤ pos 1) → weight_up_to (r ∷ rs) v ≡ weight_up_to (r ∷ rs) (v -ℤ pos 1)
-    more e f = omega (arith, sum_by-cons {X = Reading})
+    kept :
+        (b : Bool) → All (λ y. z ≤ℤ y) (cond b (r.value ∷ filter p (values rs)) (filter p (values rs)))
+        → (b ≡ true → z ≤ℤ r.value) × All (λ y. z ≤ℤ y) (filter p (values rs))
+    kept true h = (λ e. All-head (λ y. z ≤ℤ y) r.value (filter p (values rs)) h, All-tail (λ y. z ≤ℤ y) r.value (filter p (values rs)) h)
+    kept false h = (λ e. absurd (cc), h)
 
 -- no value lies below the lowest level, and none above the highest
 none_below : (rs : List Reading) → Scaled rs → weight_up_to rs (at 0 -ℤ pos 1) ≡ 0
@@ -144,20 +138,18 @@ module _ (rs : List Reading) (all : Scaled rs) (some : 0 < length rs) where
       let level = smallest_holds Level kept some_k (All-filter (reaches_half rs) Level (values rs) (values_levels rs all)) in
       let half = smallest_holds (λ x. reaches_half rs x ≡ true) kept some_k (filter_passes (reaches_half rs) (values rs)) in
       let place = placed (smallest kept) level in
-      (place.0, place.2, median place.0 place.1 place.2 half)
-    where
-      median : (p : ℕ) → p ≤ top → absolute_prefers rs ≡ at p → reaches_half rs (absolute_prefers rs) ≡ true → Median rs p
-      median p high e half =
-          record {
-            within = high;
-            reached = leb-true _ _ (rw e at half);
-            missed =
-                λ n h.
-                elim (cases_lt (2 * weight_up_to rs (at n)) (whole_weight rs)) [
-                  | inl less ↦ less
-                  | inr more ↦ absurd (omega (arith, ints, e, bounds_halves (absolute_prefers rs) (smallest_bounds (filter (reaches_half rs) (values rs))) n more))
-                ];
-          }
+      let median : Median rs place.0 =
+      record {
+        within = place.1;
+        reached = leb-true _ _ (rw place.2 at half);
+        missed =
+            λ n h.
+            elim (cases_lt (2 * weight_up_to rs (at n)) (whole_weight rs)) [
+              | inl less ↦ less
+              | inr more ↦ absurd (omega (arith, ints, place.2, bounds_halves (smallest kept) (smallest_bounds kept) n more))
+            ];
+      } in
+      (place.0, place.2, median)
 
 -- a median is the first level of least cost
 median_first : (rs : List Reading) (p : ℕ) → Median rs p → First (placed_cost absolute_cost rs) top p
