@@ -19,7 +19,7 @@ up_to_few rs v all few = omega (arith, sum_within (λ r. counted r v) 1000 (λ r
 pub median_place : List Reading → ℕ
 median_place rs = unsigned_abs (absolute_prefers rs +ℤ pos 30000)
 
--- that is a place, and the highest level has all of the weight up to it
+-- that is a place; the check finds this by the weight up to the highest level, which is all of it
 pub prefers_place : (rs : List Reading) → Scaled rs → 0 < length rs → (weight_up_to rs (pos 30000) ≡ whole_weight rs) × (median_place rs ≤ top) × (absolute_prefers rs ≡ at (median_place rs))
 unfolding median_place
 prefers_place rs all some = let m = prefers_median rs all some in (all_below rs all, omega (arith, ints, m.1, m.2.within), omega (arith, ints, m.1))
