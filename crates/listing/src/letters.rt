@@ -51,7 +51,7 @@ impl Letter {
         }
     }
 
-    // As `From`, for callers of before.
+    // As `From`; no plainer without it, where the type would have to be named.
     pub fn byte(self) -> u8
         ensures { result ≡ letter_byte self }
     {

@@ -52,7 +52,7 @@ pub fn listing(input: &[u8], output: &mut [u8]) -> Result<usize, Refusal>
     let readings = stored::check(&input[1..])?;
     let heading = Heading { letter, readings };
     let needed = heading.print(&mut []);
-    // Each call tests the room for what it alone has counted.
+    // Each call tests the room for what it alone has counted; a function for it would be no plainer.
     if needed > output.len() {
         return Err(Refusal::TooLittleRoom { needed });
     }

@@ -26,7 +26,8 @@ fn counted(row: Reading, level: i32) -> u64
     }
 }
 
-// The weight of all values up to a level.
+// The weight of all values up to a level. A sum in common with that of the costs would be public, and ask
+// something of its callers.
 fn weight_up_to(sample: Sample<'_>, level: i32) -> u64
     ensures { result ≡ weight_up_to (sampled sample.entry) level }
 {

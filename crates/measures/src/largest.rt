@@ -84,6 +84,7 @@ impl Measure for Largest {
     fn departure(self, list: Readings<'_>, level: i32) -> Option<u64>
         ensures { result ≡ departure_answer largest_departs (rows_of list.entry) level }
     {
+        // The list goes along: a closure that captured it would want clauses of its own.
         has_departure(list, level)
             .then_some(list)
             .map(|list| farthest(list, level))

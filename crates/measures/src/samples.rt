@@ -22,7 +22,7 @@ impl<'a> Sample<'a> {
     pub(crate) fn of(list: Readings<'a>) -> Option<Sample<'a>>
         ensures { option_map sampled result ≡ then_some (has_preferred (rows_of list.entry)) (rows_of list.entry) }
     {
-        // Not a closure: it would want a clause, that the test passed.
+        // In a closure the proof of the ghost fields did not close: it would want a clause, that the test passed.
         if !has_preferred(list) {
             return None;
         }

@@ -69,7 +69,8 @@ impl<'a, T> Bounded<'a, T> {
         Ok(at + 1)
     }
 
-    // All of these entries, or none of them; answers the count then.
+    // All of these entries, or none of them; answers the count then. A function for the test of the room, here and
+    // in `push`, would be no plainer.
     pub fn extend(&mut self, entries: &[T]) -> Result<usize, Refusal>
     where
         T: Copy,

@@ -18,7 +18,8 @@ pub fn check(bytes: &[u8]) -> Result<usize, Refusal>
     Table::of(bytes).map(Table::len)
 }
 
-// Writes the readings that stored bytes hold to the front of a list, and answers how many.
+// Writes the readings that stored bytes hold to the front of a list, and answers how many. Each call says of
+// itself that it delivers what it grants, since each is read alone.
 #[tactic(auto, using(crate::proofs::Decodes::decoded_exact, reading::proofs::Puts::take_put))]
 pub fn read(bytes: &[u8], into: &mut [Reading]) -> Result<usize, Refusal>
     ensures value { result ≡ delivered (decoded bytes.now) into.old }
@@ -27,7 +28,7 @@ pub fn read(bytes: &[u8], into: &mut [Reading]) -> Result<usize, Refusal>
 {
     let table = Table::of(bytes)?;
     let count = table.len();
-    // Each call tests the room for what it alone has counted.
+    // Each call tests the room for what it alone has counted; a function for it would be no plainer.
     if count > into.len() {
         return Err(Refusal::TooLittleRoom { needed: count });
     }

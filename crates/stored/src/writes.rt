@@ -31,7 +31,7 @@ pub fn write(list: Readings<'_>, into: &mut [u8]) -> Result<usize, Refusal>
         return Err(Refusal::TooMany { size: count });
     }
     let needed = 4 + 4 * count;
-    // Each call tests the room for what it alone has counted.
+    // Each call tests the room for what it alone has counted; a function for it would be no plainer.
     if needed > into.len() {
         return Err(Refusal::TooLittleRoom { needed });
     }

@@ -1,6 +1,6 @@
 // Random readings, written and read back, and what was read written again.
 use crate::random::Random;
-use crate::rooms::FILLER;
+use crate::rooms::{FILLER, untouched};
 use reading::{LIMIT, Reading, Readings};
 use std::alloc::{AllocError, Global};
 use std::{array, io};
@@ -14,7 +14,7 @@ fn written(alloc: Global, rows: &[Reading]) -> Result<Option<Vec<u8>>, AllocErro
     let Ok(length) = write(Readings::of(rows), &mut bytes) else {
         return Ok(None);
     };
-    if bytes.iter().skip(length).any(|&byte| byte != FILLER) {
+    if !bytes.get(length..).is_some_and(untouched) {
         return Ok(None);
     }
     bytes.truncate(length);
@@ -51,7 +51,7 @@ fn returns(alloc: Global, random: &mut Random, count: usize) -> Result<bool, All
 
 pub(crate) fn there_and_back(rt: &impl Print, alloc: Global) -> io::Result<()> {
     let mut random = Random::new(1);
-    // `filter` cannot pass on a failed allocation.
+    // `try_fold` would pass a failed allocation on, and is no plainer.
     let mut returned = 0u32;
     for turn in 0..205 {
         if returns(alloc, &mut random, 5 * turn + 4)? {
