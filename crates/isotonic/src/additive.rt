@@ -70,7 +70,7 @@ impl<C: Additive> Measure for C {
     fn departure(self, list: Readings<'_>, level: i32) -> Option<u64>
         ensures { result ≡ departure_answer (total (C.costs self)) (rows_of list.entry) level }
     {
-        // The list goes along: a closure that captured it would want clauses of its own.
+        // Not `then`: its closure would want clauses of its own, and without them the proof did not close.
         has_departure(list, level)
             .then_some(list)
             .map(|list| added(self, list, level))

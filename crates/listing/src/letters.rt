@@ -41,7 +41,7 @@ impl From<Letter> for u8 {
 }
 
 impl Letter {
-    // The measure that the first byte of an input names.
+    // The measure that the first byte of an input names; byte 0, as the format has it, where there is none.
     pub fn of(input: &[u8]) -> Result<Letter, Refusal>
         ensures { result ≡ letter_of input.now }
     {
@@ -51,7 +51,7 @@ impl Letter {
         }
     }
 
-    // As `From`; no plainer without it, where the type would have to be named.
+    // As `From`; without it callers would have to name the type.
     pub fn byte(self) -> u8
         ensures { result ≡ letter_byte self }
     {

@@ -59,6 +59,7 @@ fn middle(sample: Sample<'_>) -> i32
     (low + high) >> 1
 }
 
+// Its methods read as those of every `Additive`, but for what each computes.
 impl Measure for Largest {
     ghost departs = { λ _. largest_departs };
 
@@ -84,7 +85,7 @@ impl Measure for Largest {
     fn departure(self, list: Readings<'_>, level: i32) -> Option<u64>
         ensures { result ≡ departure_answer largest_departs (rows_of list.entry) level }
     {
-        // The list goes along: a closure that captured it would want clauses of its own.
+        // Not `then`: its closure would want clauses of its own, and without them the proof did not close.
         has_departure(list, level)
             .then_some(list)
             .map(|list| farthest(list, level))

@@ -58,6 +58,7 @@ impl Refusal {
         }
     }
 
+    // 0, as the format has it, where there is none.
     pub fn place(self) -> usize
         ensures { result ≡ place_of self }
     {

@@ -34,7 +34,7 @@ struct Odd {
     weight: u16,
 }
 
-// Adds a column whose cells are all alike, but for the one at a place.
+// Adds a column whose cells are all alike, but for the one at a place. The loop is about that place.
 fn add_column(
     bytes: &mut Vec<u8>,
     count: usize,
