@@ -42,9 +42,14 @@ impl<'a> Page<'a> {
     }
 
     // A number in base ten, without leading zeros, a minus sign before one below zero.
+    #[inline(always)]
     pub(crate) fn put_number<I: Integer>(&mut self, number: I)
         ensures { Printed self.old (I.text number) self.new }
     {
-        self.put(Buffer::new().format(number).as_bytes());
+        // Byte by byte: a copy of a length known only when it runs would call `memcpy`, which the archive for C
+        // would then want from outside.
+        for byte in Buffer::new().format(number).as_bytes() {
+            self.put(&[*byte]);
+        }
     }
 }

@@ -16,6 +16,7 @@ struct Heading {
 }
 
 impl Heading {
+    #[inline(always)]
     #[tactic(auto, using(crate::proofs::Listings::length_heading, crate::proofs::Listings::put_heading))]
     fn put(self, page: &mut Page<'_>)
         ensures { Printed page.old (heading self.letter self.readings) page.new }
@@ -29,7 +30,7 @@ impl Heading {
 
     // Prints the line from the front of a slice on, if it fits there, and answers how long it is.
     // Inlined, a run over no bytes comes to its count alone.
-    #[inline]
+    #[inline(always)]
     #[tactic(auto, using(crate::proofs::Listings::length_heading))]
     fn print(self, output: &mut [u8]) -> usize
         ensures value { result ≡ length (heading self.letter self.readings) }
