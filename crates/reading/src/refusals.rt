@@ -23,18 +23,19 @@ pub enum Refusal {
 // Where a refusal is checked.
 #[derive(Clone, Copy, PartialEq, Eq, Hash, Debug)]
 pub enum Site {
-    AtReading = 1,
-    AtProfile = 2,
-    AtSupplied = 3,
-    AtLetter = 4,
-    AtStored = 5,
+    AtReading,
+    AtProfile,
+    AtSupplied,
+    AtLetter,
+    AtStored,
 }
 
 impl From<Site> for u32 {
     ghost from_gives = { λ site number. number ≡ site_number site };
 
     fn from(site: Site) -> u32 {
-        site as u32
+        // Counted from 1, since 0 stands for no site.
+        site as u32 + 1
     }
 }
 
