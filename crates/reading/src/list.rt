@@ -55,7 +55,11 @@ impl<'a> Readings<'a> {
     pub fn at(self, place: usize) -> Option<Reading>
         ensures { result ≡ at_place (rows_of self.entry) place }
     {
-        self.rows.get(place.checked_sub(1)?).copied()
+        // Both ends by hand: by `get` it takes twice the instructions, and by `contains` the proof does not close.
+        if place == 0 || place > self.rows.len() {
+            return None;
+        }
+        Some(self.rows[place - 1])
     }
 
     // The readings at places `first` to `last`, as far as there are any.
