@@ -77,7 +77,8 @@ impl Additive for Squared {
         ensures { result ≡ squared_cost row level % 2 ^ 64 }
     {
         let far = distance_from(row, level);
-        u64::from(row.weight).wrapping_mul(far * far)
+        let whole = u128::from(row.weight) * u128::from(far * far);
+        (whole % (1 << 64)) as u64
     }
 
     fn least_level(self, list: Readings<'_>) -> Option<i32>
