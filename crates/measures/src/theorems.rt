@@ -1,5 +1,5 @@
 // The theorems on the measures and their definitions, each the promise of a function that does nothing. The first
-// three are alike, but each is on definitions of its own.
+// three are alike, but each is on definitions of its own. The last two answer a number, as their callers know them.
 ghost use Rattle.std.specs.Prelude.{◌≡◌, ◌+◌, max};
 ghost use Rattle.measures.specs.Absolute.{absolute_departs, absolute_prefers};
 ghost use Rattle.measures.specs.Claims.{AllPreferSmallestOfLeast, ExtremesAreReached, FlooredIsLargestNotAbove, NearestIsNearest};
@@ -33,14 +33,20 @@ pub fn largest_keeps_its_formulas()
 {}
 
 // Under A, S and L the preferred level is the smallest of the levels at which a list departs by the least.
-pub fn preferred_is_smallest_of_least()
-    ensures { AllPreferSmallestOfLeast }
-{}
+pub fn preferred_is_smallest_of_least() -> u8
+    ensures theorem { AllPreferSmallestOfLeast }
+    ensures value { result ≡ 0 }
+{
+    0
+}
 
 // What the definitions call smallest, largest, floored and nearest is that.
 #[tactic(auto, using(crate::specs::Extremes::extremes_reached, crate::specs::Quotients::nearest_nearest))]
-pub fn definitions_mean_what_they_say()
+pub fn definitions_mean_what_they_say() -> u8
     ensures extremes { ExtremesAreReached }
     ensures floored { FlooredIsLargestNotAbove }
     ensures nearest { NearestIsNearest }
-{}
+    ensures value { result ≡ 0 }
+{
+    0
+}
