@@ -1,5 +1,5 @@
--- What is written reads back as the same readings, and rows that read are written as the same bytes.
-use Rattle.std.proofs.Common.{◌≡◌, ℕ, ◌+◌, ◌*◌, ◌<◌, ◌≤◌, true, List, [], ◌∷◌, ◌++◌, map, length, take, drop, ℤ, pos, negsuc, Ok, refl, ◌∙◌, arith}
+-- What is written reads back as the same readings, and rows and bytes that read are written as the same bytes.
+use Rattle.std.proofs.Common.{◌≡◌, ℕ, suc, ◌+◌, ◌*◌, ◌<◌, ◌≤◌, true, List, [], ◌∷◌, ◌++◌, map, length, take, drop, ℤ, pos, negsuc, Ok, sym, refl, ap, ◌∙◌, arith}
 use Rattle.std.specs.List.{flat_map, zip}
 use Rattle.std.proofs.lemmas.Bool.{and_parts}
 use Rattle.std.proofs.lemmas.Bool.Decides.{nat_tests}
@@ -14,10 +14,10 @@ use Rattle.reading.specs.Scale.{limit, is_level, is_weight, OnScale, Scaled}
 use Rattle.stored.specs.declared.columns.Column.{Column}
 use Rattle.stored.specs.declared.columns.Column.TheVariants.{Values, Weights}
 use Rattle.stored.specs.Forms.{paired, stored_rows, all_admitted, sized, decoded, cell_of, column_bytes, encoded}
-use Rattle.stored.specs.Words.{split, words, from_complement, to_complement}
+use Rattle.stored.specs.Words.{word, split, words, from_complement, to_complement}
 use Rattle.stored.proofs.Admits.{all_admits}
 use Rattle.stored.proofs.Stored.{stored_words}
-use Rattle.stored.proofs.Pairs.{Bytes, Numbers, length_words, split_words, to_from_complement, word_split, words_below, words_split}
+use Rattle.stored.proofs.Pairs.{Bytes, Numbers, length_words, split_word, split_words, to_from_complement, word_split, words_below, words_split}
 
 value_cell : (v : ℤ) → is_level v ≡ true → (to_complement v < 65536) × (from_complement (to_complement v) ≡ v)
 value_cell (pos n) h = grind (arith, nat_tests)
@@ -109,3 +109,16 @@ rows_exact n rest long =
           let back = split_words rest (omega arith) all in
           cc,
     )
+
+-- bytes that read are those that writing gives
+pub reads_exact :
+    (a b c d n : ℕ) (rest : List ℕ) → Bytes (a ∷ b ∷ c ∷ d ∷ rest) → word a b ≡ n → word c d ≡ n → length rest ≡ 4 * n
+    → encoded (stored_rows n rest) ≡ a ∷ b ∷ c ∷ d ∷ rest
+reads_exact a b c d n rest all first second long =
+    let exact = rows_exact n rest long in
+    let p : split (length (stored_rows n rest)) ≡ a ∷ b ∷ [] = ap split (exact.0 ∙ sym first) ∙ split_word a b (all 0 0 (omega arith)) (all 1 0 (omega arith)) in
+    let q : split (length (stored_rows n rest)) ≡ c ∷ d ∷ [] = ap split (exact.0 ∙ sym second) ∙ split_word c d (all 2 0 (omega arith)) (all 3 0 (omega arith)) in
+    let columns = column_bytes Values (stored_rows n rest) ++ column_bytes Weights (stored_rows n rest) in
+    ap (λ xs. xs ++ (split (length (stored_rows n rest)) ++ columns)) p
+    ∙ ap (λ xs. a ∷ b ∷ (xs ++ columns)) q
+    ∙ ap (λ xs. a ∷ b ∷ c ∷ d ∷ xs) (exact.1 (λ k e i. all (suc (suc (suc (suc k)))) e (omega arith)))

@@ -5,6 +5,10 @@ use Rattle.std.specs.Prelude.{ℕ, ◌+◌, ◌-◌, ◌*◌, ◌/◌, ◌%◌, 
 abbrev pub word : ℕ → ℕ → ℕ
 word low high = low + high * 256
 
+-- the number at index i of bytes taken two by two
+abbrev pub word_at : List ℕ → ℕ → ℕ
+word_at bs i = word (slice_index bs (2 * i)) (slice_index bs (2 * i + 1))
+
 -- the number that a pair of bytes is
 abbrev pub pair_number : List ℕ → ℕ
 pair_number pair = word (slice_index pair 0) (slice_index pair 1)
