@@ -33,9 +33,9 @@ pub fn largest_keeps_its_formulas()
 {}
 
 // Under A, S and L the preferred level is the smallest of the levels at which a list departs by the least.
+// The clause has no name, as callers cite it, and so stands alone: the number means nothing.
 pub fn preferred_is_smallest_of_least() -> u8
-    ensures theorem { AllPreferSmallestOfLeast }
-    ensures value { result ≡ 0 }
+    ensures { AllPreferSmallestOfLeast }
 {
     0
 }
